@@ -1,0 +1,17 @@
+//! Names, numbers, records and the outside of the program.
+#![tactic(auto)]
+
+mod damage;
+mod list;
+mod name;
+mod numbers;
+mod object;
+mod order;
+mod record;
+
+pub use damage::Damage;
+pub use list::Items;
+pub use name::{Name, NameRefusal, Path, PathRefusal};
+pub use numbers::{ClientId, Ino, OpNo, RankNo, Tid};
+pub use object::ObjectName;
+pub use record::{InodeRecord, Kind, Target};

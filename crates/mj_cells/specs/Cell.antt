@@ -1,0 +1,48 @@
+-- Cells: their order, and which values fit which keys.
+use Rattle.std.specs.Prelude.{◌≢◌, ℕ, Bool, true, false, List, [], ◌∷◌}
+use Rattle.std.specs.declared.cmp.Ordering.{Ordering}
+use Rattle.std.specs.Ordering.{on, eq_by_cmp}
+use Rattle.mj_base.specs.InOrder.{bytes_cmp}
+use Rattle.mj_base.specs.declared.record.Kind.TheVariants.{Dir}
+use Rattle.mj_base.specs.Record.{IsRecord}
+use Rattle.mj_cells.specs.declared.CellKey.{CellKey}
+use Rattle.mj_cells.specs.declared.CellKey.TheVariants.{Dentry, DirHead, NextIno, Session, Done, OpenOf}
+use Rattle.mj_cells.specs.declared.CellValue.{CellValue}
+use Rattle.mj_cells.specs.declared.CellValue.TheVariants.{Full, Remote, Null, Number, Present, Gone}
+
+-- a key as numbers: the variant's place, and then the fields
+abbrev pub key_numbers : CellKey → List ℕ
+key_numbers (Dentry dir name) = 0 ∷ dir ∷ name
+key_numbers (DirHead dir) = 1 ∷ dir ∷ []
+key_numbers NextIno = 2 ∷ []
+key_numbers (Session client) = 3 ∷ client ∷ []
+key_numbers (Done client tid) = 4 ∷ client ∷ tid ∷ []
+key_numbers (OpenOf client ino) = 5 ∷ client ∷ ino ∷ []
+
+abbrev pub key_cmp : CellKey → CellKey → Ordering
+key_cmp = on key_numbers bytes_cmp
+
+abbrev pub same_key : CellKey → CellKey → Bool
+same_key = eq_by_cmp key_cmp
+
+abbrev pub Fits : CellKey → CellValue → Type 0
+Fits (Dentry dir name) (Full version inode) = IsRecord inode
+Fits (Dentry dir name) (Remote version ino kind) = kind ≢ Dir
+Fits (Dentry dir name) (Null version) = Unit {0}
+Fits (Dentry dir name) Gone = Unit {0}
+Fits (OpenOf client ino) Present = Unit {0}
+Fits (OpenOf client ino) Gone = Unit {0}
+Fits NextIno (Number n) = Unit {0}
+Fits (DirHead dir) (Number n) = Unit {0}
+Fits (DirHead dir) Gone = Unit {0}
+Fits (Session client) (Number n) = Unit {0}
+Fits (Session client) Gone = Unit {0}
+Fits (Done client tid) (Number n) = Unit {0}
+Fits (Done client tid) Gone = Unit {0}
+Fits _ _ = ⊥
+
+-- `Gone`, a null dentry and a key that is not there are the same
+abbrev pub is_there : CellValue → Bool
+is_there (Null version) = false
+is_there Gone = false
+is_there _ = true
