@@ -1,7 +1,7 @@
 //! What is wrong with an image.
 
-use crate::numbers::{ClientId, Ino};
 use crate::list::Items;
+use crate::numbers::{ClientId, Ino};
 use crate::object::ObjectName;
 
 #[derive(Drop)]
