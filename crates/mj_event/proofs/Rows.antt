@@ -3,8 +3,8 @@ use Rattle.std.specs.Prelude.{◌≡◌, ℕ, List, [], ◌∷◌, None, Some, O
 use Rattle.mj_base.specs.Record.{record_at, target_at}
 use Rattle.mj_base.specs.declared.record.Kind.TheVariants.{Dir}
 use Rattle.mj_base.specs.declared.record.InodeRecord.{InodeRecord}
-use Rattle.mj_cells.specs.declared.CellKey.TheVariants as key
-use Rattle.mj_cells.specs.declared.CellValue.TheVariants as value
+use Rattle.mj_cells.specs.declared.cell.CellKey.TheVariants as key
+use Rattle.mj_cells.specs.declared.cell.CellValue.TheVariants as value
 use Rattle.mj_meta.specs.declared.HeadBit.TheVariants as head
 use Rattle.mj_meta.specs.BlobReading.{blob_at, lump_at, name_at, full_at}
 use Rattle.mj_event.specs.declared.Event.{Event}
