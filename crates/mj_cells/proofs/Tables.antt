@@ -3,7 +3,7 @@ use Rattle.std.proofs.Common.{◌≡◌, ℕ, Bool, true, false, cond, List, [],
 use Rattle.std.specs.declared.cmp.Ordering.{Ordering}
 use Rattle.std.specs.declared.cmp.Ordering.TheVariants.{Less, Equal, Greater}
 use Rattle.std.specs.Ordering.{eq_by_cmp, is_eq, ordering_then}
-use Rattle.mj_maps.specs.Map.{Map, get, empty}
+use Rattle.mj_maps.specs.Map.{Map, get}
 use Rattle.mj_maps.specs.Orders.{nat_cmp, place_cmp, pair_cmp}
 use Rattle.mj_maps.proofs.MapLaws.{Exact, cases_key, eq_same, exact_nat, exact_place, exact_pair, get-insert, get-remove, get_empty, same_map}
 use Rattle.mj_cells.specs.declared.cell.CellKey.{CellKey}
@@ -11,7 +11,7 @@ use Rattle.mj_cells.specs.declared.cell.CellKey.TheVariants as key
 use Rattle.mj_cells.specs.declared.cell.CellValue.{CellValue}
 use Rattle.mj_cells.specs.declared.cell.CellValue.TheVariants as value
 use Rattle.mj_cells.specs.declared.cell.CellWrite.{CellWrite}
-use Rattle.mj_cells.specs.Cell.{key_cmp, same_key, Fits}
+use Rattle.mj_cells.specs.Cell.{same_key, Fits}
 use Rattle.mj_cells.specs.Table.{Dentry, Table, no_cells, dentry_of, number_of, presence_of, with_at, put_at, put, overlay, dentry_value, number_value, presence_value, value_of, shown, settled, last_of}
 use Rattle.mj_cells.specs.Table.Dentry.{Full, Remote}
 use Rattle.mj_cells.proofs.Keys.{exact_key}
@@ -167,8 +167,8 @@ put_swap t k l v w other = same_table _ _ (λ q. elim (cases_key exact_key q k) 
   | inl e ↦
       let here = eq_same exact_key k in
       let way : value_of (put_at (put_at t k v) l w) k ≡ value_of (put_at (put_at t l w) k v) k =
-          value_of-put_at (put_at t k v) l w k ∙ ap (λ b. cond b (shown l w) (value_of (put_at t k v) k)) other ∙ value_of-put_at t k v k ∙ ap (λ b. cond b (shown k v) (value_of t k)) here
-          ∙ sym (value_of-put_at (put_at t l w) k v k ∙ ap (λ b. cond b (shown k v) (value_of (put_at t l w) k)) here) in
+      value_of-put_at (put_at t k v) l w k ∙ ap (λ b. cond b (shown l w) (value_of (put_at t k v) k)) other ∙ value_of-put_at t k v k ∙ ap (λ b. cond b (shown k v) (value_of t k)) here
+      ∙ sym (value_of-put_at (put_at t l w) k v k ∙ ap (λ b. cond b (shown k v) (value_of (put_at t l w) k)) here) in
       subst (λ z. value_of (put_at (put_at t k v) l w) z ≡ value_of (put_at (put_at t l w) k v) z) (sym e) way
   | inr e ↦
       value_of-put_at (put_at t k v) l w q ∙ ap (cond (same_key q l) (shown l w)) (value_of-put_at t k v q ∙ ap (λ b. cond b (shown k v) (value_of t q)) e)
