@@ -1,0 +1,50 @@
+//! The plain tree: four lists and a number.
+
+ghost use Rattle.std.specs.Prelude.{IsTrue};
+ghost use Rattle.mj_tree.specs.Lists.{are_in_order};
+
+use mj_base::{ClientId, Ino, InodeRecord, Items, Name, Tid};
+
+/// A name of an inode in a directory.
+#[derive(Drop)]
+pub struct PlainLink {
+    pub parent: Ino,
+    pub name: Name,
+    pub ino: Ino,
+}
+
+/// A file that a client has open.
+#[derive(Clone, Copy)]
+pub struct PlainOpen {
+    pub client: ClientId,
+    pub ino: Ino,
+}
+
+/// The inode that was the reply to a request.
+#[derive(Clone, Copy)]
+pub struct KeptReply {
+    pub tid: Tid,
+    pub ino: Ino,
+}
+
+/// A client's session, with the replies that are kept for it, ascending by their numbers.
+#[derive(Drop)]
+pub struct PlainSession {
+    pub client: ClientId,
+    pub oldest: Tid,
+    pub kept: Items<KeptReply>,
+}
+
+/// The tree by lists alone, each ascending by its keys: records by inode, links by directory and name, opens by
+/// client and inode, sessions by client. The root's record is fixed and is not in the list. The field `links` of a
+/// record is 0 and is not part of its meaning.
+#[derive(Drop)]
+pub struct PlainTree {
+    /// The inode that the next new file or directory gets.
+    pub next: Ino,
+    pub records: Items<InodeRecord>,
+    pub links: Items<PlainLink>,
+    pub opens: Items<PlainOpen>,
+    pub sessions: Items<PlainSession>,
+    pub ghost in_order: { IsTrue (are_in_order records links opens sessions) },
+}
