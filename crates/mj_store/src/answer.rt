@@ -1,0 +1,74 @@
+//! What a store answers.
+
+ghost use Rattle.std.specs.Prelude.{◌≡◌};
+ghost use Rattle.mj_store.specs.declared.answer.ReadRefusal.TheVariants.{Memory as read_memory};
+
+use crate::act::{ObjectOp, Pair};
+use mj_base::{Items, OpNo};
+use std::alloc::{AllocError, AllocFailed};
+
+/// An operation was tried. It was applied, or it failed and its object is blocked until `restart`.
+#[derive(Clone, Copy, Debug, PartialEq, Eq)]
+pub struct Ack {
+    pub op: OpNo,
+    pub done: bool,
+}
+
+/// A fault of the store, with its count of faults after the call.
+#[derive(Clone, Copy, Debug, PartialEq, Eq)]
+pub struct StoreFault {
+    pub faults: u64,
+}
+
+/// Some of an object's pairs in the order of their keys.
+#[derive(Debug, Drop)]
+pub struct Page {
+    /// Whether there is such an object.
+    pub present: bool,
+    pub head: Option<Items<u8>>,
+    pub pairs: Items<Pair>,
+    /// Whether there are pairs behind these.
+    pub more: bool,
+}
+
+/// Why an operation was not added.
+#[derive(Drop)]
+pub enum SubmitRefusal {
+    Failed(StoreFault),
+    /// Want of memory, with the operation.
+    Memory(ObjectOp),
+}
+
+/// Why nothing was read.
+#[derive(Clone, Copy, Debug, PartialEq, Eq)]
+pub enum ReadRefusal {
+    Failed(StoreFault),
+    /// Want of memory.
+    Memory,
+}
+
+/// Why an operation is not known to be applied.
+#[derive(Clone, Copy, Debug, PartialEq, Eq)]
+pub enum PerformRefusal {
+    Failed(StoreFault),
+    /// The operation has this number and is not reported yet.
+    Waiting(OpNo),
+    /// Want of memory. Nothing was submitted.
+    Memory,
+}
+
+impl From<AllocError> for ReadRefusal {
+    ghost from_gives = { λ _ e. e ≡ read_memory };
+
+    fn from(_: AllocError) -> Self {
+        ReadRefusal::Memory
+    }
+}
+
+impl<T: Drop> From<AllocFailed<T>> for ReadRefusal {
+    ghost from_gives = { λ _ e. e ≡ read_memory };
+
+    fn from(_: AllocFailed<T>) -> Self {
+        ReadRefusal::Memory
+    }
+}
