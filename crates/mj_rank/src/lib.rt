@@ -1,0 +1,8 @@
+//! One rank over an object store: its mount and its calls.
+#![tactic(auto)]
+
+mod answers;
+mod refusal;
+
+pub use answers::{Early, Fault, MountStep, Reaped, Span};
+pub use refusal::{MountRefusal, RankRefusal, Sealed};
