@@ -1,5 +1,6 @@
 -- Cells: the order of their keys, and which values fit which keys.
-use Rattle.std.specs.Prelude.{◌≢◌, ℕ, Bool, List, [], ◌∷◌}
+use Rattle.mj_maps.specs.Map.{Map, get}
+use Rattle.std.specs.Prelude.{◌≡◌, ◌≢◌, Some, ℕ, Bool, List, [], ◌∷◌}
 use Rattle.std.specs.declared.cmp.Ordering.{Ordering}
 use Rattle.std.specs.Ordering.{on, eq_by_cmp}
 use Rattle.mj_base.specs.InOrder.{bytes_cmp}
@@ -46,3 +47,7 @@ Fits _ _ = ⊥
 
 abbrev pub WriteFits : CellWrite → Type 0
 WriteFits w = Fits w.key w.value
+
+-- each cell's value fits its key
+abbrev pub AllFit : Map key_cmp CellValue → Type 0
+AllFit m = (k : CellKey) (v : CellValue) → get m k ≡ Some v → Fits k v
