@@ -1,7 +1,6 @@
 -- Files by name, and what reading and writing them gives.
-use Rattle.std.specs.Prelude.{◌≡◌, ℕ, ◌<◌, List, length, Option, Some, None, IsSomeAnd, bytes_eq}
+use Rattle.std.specs.Prelude.{◌≡◌, ℕ, List, length, Option, Some, None, IsSomeAnd, bytes_eq}
 use Rattle.std.specs.Map.{update}
-use Rattle.mj_base.specs.declared.files.TheConstants.{MAX_FILE_BYTES}
 use Rattle.mj_base.specs.declared.files.FileRefusal.{FileRefusal}
 use Rattle.mj_base.specs.declared.files.FileRefusal.TheVariants.{Missing, TooLong, Failed, Memory}
 

@@ -2,18 +2,26 @@
 #![tactic(auto)]
 
 mod damage;
+mod fault_plan;
 mod files;
+mod host;
 mod list;
+mod memory;
 mod name;
 mod numbers;
 mod object;
 mod order;
+#[cfg(test)]
+mod outside_tests;
 mod record;
 mod sink;
 
 pub use damage::Damage;
+pub use fault_plan::FaultPlan;
 pub use files::{FileRefusal, Files, MAX_FILE_BYTES};
+pub use host::{HostFiles, HostSink};
 pub use list::Items;
+pub use memory::{MemFiles, MemSink};
 pub use name::{Name, NameRefusal, Path, PathRefusal};
 pub use numbers::{ClientId, Ino, OpNo, RankNo, Tid};
 pub use object::ObjectName;
