@@ -6,7 +6,8 @@ use Rattle.mj_base.specs.declared.record.Kind.{Kind}
 use Rattle.mj_base.specs.declared.record.Kind.TheVariants.{Dir, File, Symlink}
 use Rattle.mj_base.specs.declared.record.InodeRecord.{InodeRecord}
 use Rattle.mj_base.specs.Reading.{such, bytes_at, two, four, eight}
-use Rattle.mj_base.specs.Record.{kind_code, kind_of, kind_at, target_at, record_at, record_bytes, IsRecord, target_length_fits, has_no_zero}
+use Rattle.mj_base.specs.Record.{kind_code, kind_of, kind_at, target_at, record_at, record_bytes, IsRecord, target_length_fits}
+use Rattle.mj_base.specs.Target.{has_no_zero}
 use Rattle.mj_base.proofs.Codec.{IsBytes, IsCodec, first_takes, first_again, ok_is, u8_codec, u16_codec, u32_codec, u64_codec, bytes_codec, such_codec, standing_codec}
 
 by_tests : (x : ℕ) (k : Kind) (a b c : Bool) → (a ≡ true → x ≡ 1) → (b ≡ true → x ≡ 2) → (c ≡ true → x ≡ 3) → cond a (Some Dir) (cond b (Some File) (cond c (Some Symlink) None)) ≡ Some k → x ≡ kind_code k

@@ -1,9 +1,9 @@
 -- An inode's record in bytes.
-use Rattle.std.specs.Prelude.{ℕ, ◌<◌, ◌≤◌, ◌^◌, Bool, not, ◌&&◌, ◌==◌, nat_le, List, ◌∷◌, ◌++◌, length, IsTrue, if◌then◌else◌, Ok, Option, Some, None}
-use Rattle.std.specs.List.{list_any}
+use Rattle.std.specs.Prelude.{ℕ, ◌<◌, ◌≤◌, ◌^◌, Bool, ◌&&◌, ◌==◌, nat_le, List, ◌∷◌, ◌++◌, length, IsTrue, if◌then◌else◌, Ok, Option, Some, None}
 use Rattle.mj_base.specs.declared.record.Kind.{Kind}
 use Rattle.mj_base.specs.declared.record.Kind.TheVariants.{Dir, File, Symlink}
 use Rattle.mj_base.specs.declared.record.InodeRecord.{InodeRecord}
+use Rattle.mj_base.specs.Target.{has_no_zero}
 use Rattle.mj_base.specs.Reading.{two, four, eight, Read, ◌>>=◌, such, standing_for, bytes_at, u8_at, u16_at, u32_at, u64_at}
 
 abbrev pub kind_code : Kind → ℕ
@@ -18,9 +18,6 @@ same_kind a b = kind_code a == kind_code b
 abbrev pub target_length_fits : Kind → ℕ → Bool
 target_length_fits Symlink n = nat_le 1 n && nat_le n 4095
 target_length_fits _ n = n == 0
-
-abbrev pub has_no_zero : List ℕ → Bool
-has_no_zero bytes = not (list_any (λ b. b == 0) bytes)
 
 abbrev pub target_fits : Kind → List ℕ → Bool
 target_fits kind target = target_length_fits kind (length target) && has_no_zero target

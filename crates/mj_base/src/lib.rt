@@ -2,6 +2,7 @@
 #![tactic(auto)]
 
 mod damage;
+mod escapes;
 mod fault_plan;
 mod files;
 mod host;
@@ -13,17 +14,20 @@ mod object;
 mod order;
 #[cfg(test)]
 mod outside_tests;
+mod path;
 mod record;
 mod sink;
 
 pub use damage::Damage;
+pub use escapes::{EscapeRefusal, escape, unescape};
 pub use fault_plan::FaultPlan;
 pub use files::{FileRefusal, Files, MAX_FILE_BYTES};
 pub use host::{HostFiles, HostSink};
 pub use list::Items;
 pub use memory::{MemFiles, MemSink};
-pub use name::{Name, NameRefusal, Path, PathRefusal};
+pub use name::{Name, NameRefusal};
 pub use numbers::{ClientId, Ino, OpNo, RankNo, Tid};
 pub use object::ObjectName;
-pub use record::{InodeRecord, Kind, Target};
+pub use path::{Path, PathRefusal};
+pub use record::{InodeRecord, Kind, Target, TargetRefusal};
 pub use sink::{Sink, SinkFault, put_all};

@@ -1,7 +1,8 @@
 //! A list, seen as its items.
 
-ghost use Rattle.std.specs.Prelude.{◌≡◌, ◌==◌, List, length};
+ghost use Rattle.std.specs.Prelude.{◌≡◌, ◌==◌, List, IfOk, length};
 
+use std::alloc::{AllocError, Global};
 use std::marker::Model;
 
 /// A list over a vector, made from one and giving it back without taking memory.
@@ -17,12 +18,14 @@ impl<T> Model for Items<T> {
 }
 
 impl<T> Items<T> {
+    /// The list of a vector's items.
     pub fn from_vec(items: Vec<T>) -> Self
         ensures { result ≡ items.items }
     {
         Items { items }
     }
 
+    /// The vector of the items.
     pub fn into_vec(self) -> Vec<T>
         ensures { result.items ≡ self }
     {
@@ -30,21 +33,42 @@ impl<T> Items<T> {
         items
     }
 
+    /// The items, in their order.
     pub fn as_slice(&self) -> &[T]
         ensures { result.now ≡ self.now }
     {
         &self.items
     }
 
+    /// How many items there are.
     pub fn len(&self) -> usize
         ensures { result ≡ length self.now }
     {
         self.items.len()
     }
 
+    /// Whether there is no item.
     pub fn is_empty(&self) -> bool
         ensures { result ≡ (length self.now == 0) }
     {
         self.items.is_empty()
+    }
+}
+
+impl Items<u8> {
+    /// The list of these bytes.
+    pub fn of_bytes(alloc: Global, bytes: &[u8]) -> Result<Items<u8>, AllocError>
+        ensures { IfOk result (λ items. items ≡ bytes.now) }
+    {
+        Ok(Items {
+            items: Vec::from_slice(alloc, bytes)?,
+        })
+    }
+
+    /// The same bytes again.
+    pub fn copy(&self, alloc: Global) -> Result<Items<u8>, AllocError>
+        ensures { IfOk result (λ items. items ≡ self.now) }
+    {
+        Items::of_bytes(alloc, &self.items)
     }
 }
