@@ -86,6 +86,13 @@ not_listed op (x ∷ list) r l h e = elim (cases_eq x.op op) [
   ]
 ]
 
+-- the number that is listed last was not listed before
+pub only_new : (number faults before : ℕ) (list : List Listed) → AllBelow number list → before ≤ faults → (count : ℕ) → In (record { op = number; count = count }) (with_listed number faults list) → before ≤ count
+only_new number faults before list below le count i = elim (in_listed number faults (record { op = number; count = count }) list i) [
+  | inl old ↦ absurd (omega (arith, below (record { op = number; count = count }) old))
+  | inr is ↦ subst (λ n. before ≤ n) (sym (ap (λ (l : Listed). l.count) is)) le
+]
+
 -- ---- counts
 
 pub rose_since : (base before now : ℕ) → base ≤ before → Rose before now → Rose base now

@@ -15,6 +15,10 @@ abbrev pub fronts_applied : List ObjectName → StoreState → StoreState
 fronts_applied [] s = s
 fronts_applied (name ∷ names) s = fronts_applied names (tried name s)
 
+-- no front changes anything: nothing is pending but in blocked objects
+abbrev pub Still : StoreState → Type 0
+Still s = (name : ObjectName) → tried name s ≡ s
+
 -- Some fronts are applied. What the store then holds has P, and these events lead to the new state.
 pub record Moved (P : StoreState → Type 0) (events : List Event) (s : StoreState) (new : Option StoreState) : Type 0 where
   pub fronts : List ObjectName

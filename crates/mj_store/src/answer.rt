@@ -2,6 +2,8 @@
 
 ghost use Rattle.std.specs.Prelude.{◌≡◌};
 ghost use Rattle.mj_store.specs.declared.answer.ReadRefusal.TheVariants.{Memory as read_memory};
+ghost use Rattle.mj_store.specs.declared.answer.PerformRefusal.TheVariants.{Failed as perform_failed};
+ghost use Rattle.mj_store.specs.Refusals.{perform_refusal};
 
 use crate::act::{ObjectOp, Pair};
 use mj_base::{Items, OpNo};
@@ -70,5 +72,24 @@ impl<T: Drop> From<AllocFailed<T>> for ReadRefusal {
 
     fn from(_: AllocFailed<T>) -> Self {
         ReadRefusal::Memory
+    }
+}
+
+impl From<StoreFault> for PerformRefusal {
+    ghost from_gives = { λ fault e. e ≡ perform_failed fault };
+
+    fn from(fault: StoreFault) -> Self {
+        PerformRefusal::Failed(fault)
+    }
+}
+
+impl From<SubmitRefusal> for PerformRefusal {
+    ghost from_gives = { λ refusal e. e ≡ perform_refusal refusal };
+
+    fn from(refusal: SubmitRefusal) -> Self {
+        match refusal {
+            SubmitRefusal::Failed(fault) => PerformRefusal::Failed(fault),
+            SubmitRefusal::Memory(_) => PerformRefusal::Memory,
+        }
     }
 }
