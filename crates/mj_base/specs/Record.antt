@@ -6,6 +6,7 @@ use Rattle.mj_base.specs.declared.record.InodeRecord.{InodeRecord}
 use Rattle.mj_base.specs.Target.{has_no_zero}
 use Rattle.mj_base.specs.Reading.{two, four, eight, Read, ◌>>=◌, such, standing_for, bytes_at, u8_at, u16_at, u32_at, u64_at}
 
+-- the number of a kind in bytes
 abbrev pub kind_code : Kind → ℕ
 kind_code Dir = 1
 kind_code File = 2
@@ -19,13 +20,15 @@ abbrev pub target_length_fits : Kind → ℕ → Bool
 target_length_fits Symlink n = nat_le 1 n && nat_le n 4095
 target_length_fits _ n = n == 0
 
+-- a target that a record of this kind has
 abbrev pub target_fits : Kind → List ℕ → Bool
 target_fits kind target = target_length_fits kind (length target) && has_no_zero target
 
+-- a record's spelling
 abbrev pub record_bytes : InodeRecord → List ℕ
 record_bytes r = 1 ∷ eight r.ino ++ kind_code r.kind ∷ two r.mode ++ four r.uid ++ four r.gid ++ eight r.size ++ eight r.mtime ++ four r.links ++ two (length r.target) ++ r.target
 
--- what has a spelling
+-- the records that have a spelling
 pub record IsRecord (r : InodeRecord) : Type 0 where
   pub ino : r.ino < 2 ^ 64
   pub mode : r.mode ≤ 0o7777
@@ -36,11 +39,15 @@ pub record IsRecord (r : InodeRecord) : Type 0 where
   pub links : r.links < 2 ^ 32
   pub target : IsTrue (target_fits r.kind r.target)
 
+-- the kind that a number stands for
 abbrev pub kind_of : ℕ → Option Kind
 kind_of code = if code == 1 then Some Dir else if code == 2 then Some File else if code == 3 then Some Symlink else None
 
 abbrev pub kind_at : List ℕ → Read Kind
 kind_at = standing_for kind_of u8_at
+
+abbrev pub mode_at : List ℕ → Read ℕ
+mode_at = such (λ m. nat_le m 0o7777) u16_at
 
 -- the length is wrong where the kind has none of that length, and the bytes are where one of them is 0
 unfoldable pub target_at : Kind → List ℕ → Read (List ℕ)
@@ -48,12 +55,13 @@ target_at kind bytes = do
   n ← such (target_length_fits kind) u16_at bytes
   such has_no_zero (bytes_at n.0) n.1
 
+-- the record that bytes begin with
 unfoldable pub record_at : List ℕ → Read InodeRecord
 record_at bytes = do
   version ← such (λ v. v == 1) u8_at bytes
   ino ← u64_at version.1
   kind ← kind_at ino.1
-  mode ← such (λ m. nat_le m 0o7777) u16_at kind.1
+  mode ← mode_at kind.1
   uid ← u32_at mode.1
   gid ← u32_at uid.1
   size ← u64_at gid.1

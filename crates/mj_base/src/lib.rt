@@ -1,6 +1,7 @@
 //! Names, numbers, records and the outside of the program.
 #![tactic(auto)]
 
+mod cursor;
 mod damage;
 mod escapes;
 mod fault_plan;
@@ -16,8 +17,10 @@ mod order;
 mod outside_tests;
 mod path;
 mod record;
+mod record_grammar;
 mod sink;
 
+pub use cursor::{Cursor, Fault, put_u8, put_u16, put_u32, put_u64};
 pub use damage::Damage;
 pub use escapes::{EscapeRefusal, escape, unescape};
 pub use fault_plan::FaultPlan;
@@ -30,4 +33,5 @@ pub use numbers::{ClientId, Ino, OpNo, RankNo, Tid};
 pub use object::ObjectName;
 pub use path::{Path, PathRefusal};
 pub use record::{InodeRecord, Kind, Target, TargetRefusal};
+pub use record_grammar::{RecordRefusal, kind_field, record_field, record_read, record_write};
 pub use sink::{Sink, SinkFault, put_all};

@@ -13,6 +13,21 @@ pub enum Kind {
     Symlink,
 }
 
+impl Kind {
+    ghost use Rattle.mj_base.specs.Record.{kind_code};
+
+    /// The number that stands for the kind in bytes.
+    pub fn code(self) -> u8
+        ensures { result ≡ kind_code self }
+    {
+        match self {
+            Kind::Dir => 1,
+            Kind::File => 2,
+            Kind::Symlink => 3,
+        }
+    }
+}
+
 /// What a symlink points to: any bytes. A symlink's own has 1 to 4,095 bytes, none of them 0, and
 /// the record of a directory or a file has an empty one.
 #[derive(Debug, Drop)]
