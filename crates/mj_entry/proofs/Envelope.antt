@@ -1,7 +1,7 @@
 -- The envelope is read as it is spelled, and each proper front of it is a part.
-use Rattle.std.proofs.Common.{◌≡◌, ℕ, zero, suc, ◌+◌, ◌-◌, ◌^◌, ◌<◌, ◌≤◌, Bool, true, false, cond, List, [], ◌∷◌, ◌++◌, inl, inr, length, take, drop, refl, ◌∙◌, ap, arith, append_assoc, length-append, sym, get_or, subst}
+use Rattle.std.proofs.Common.{◌≡◌, ℕ, zero, suc, ◌+◌, ◌^◌, ◌<◌, ◌≤◌, Bool, true, false, cond, List, [], ◌∷◌, ◌++◌, inl, inr, length, take, drop, refl, ◌∙◌, ap, arith, append_assoc, length-append, sym}
 use Rattle.std.specs.Prelude.{not, nat_lt, nat_le, ◌&&◌, ◌==◌, if◌then◌else◌}
-use Rattle.std.specs.Int.{w32, w64, from_le_bytes, to_le_bytes}
+use Rattle.std.specs.Int.{w32, w64, from_le_bytes}
 use Rattle.std.proofs.lemmas.Bool.{cond-true, cond-false, lt-ltb, le-ltb, leb-true, ltb-false, eq-eqb, eqb-true, cases_lt}
 use Rattle.std.proofs.lemmas.List.{length-take, length-drop, take_at, drop_at, take-append-drop, take_all, get_or-drop, get_or-take, get_or_past, drop-drop}
 use Rattle.std.proofs.lemmas.Nat.{from_le_bytes-to_le_bytes_4, from_le_bytes-to_le_bytes_8, le_bytes_4, le_bytes_8}

@@ -1,5 +1,7 @@
 //! Worked rows, and what becomes of an entry that is cut or changed.
 
+ghost use Rattle.std.specs.Prelude.{◌≡◌, length, vec_len, IfOk};
+
 use super::{EntryRead, entry_read, entry_write};
 use std::alloc::{AllocError, Global};
 use std::test::Fail;
@@ -13,7 +15,9 @@ const ENTRY: [u8; 21] = [
 const AT: u64 = 4_194_304;
 
 /// The bytes with another one at a place.
-fn changed(alloc: Global, bytes: &[u8], place: usize, b: u8) -> Result<Vec<u8>, AllocError> {
+fn changed(alloc: Global, bytes: &[u8], place: usize, b: u8) -> Result<Vec<u8>, AllocError>
+    ensures { IfOk result (λ others. vec_len others ≡ length bytes.now) }
+{
     let mut others = bytes.to_vec(alloc)?;
     if place < others.len() {
         others[place] = b;

@@ -6,7 +6,7 @@ use Rattle.mj_layout.specs.Striping.{Striping}
 use Rattle.mj_layout.specs.Place.{object_of, offset_of}
 use Rattle.mj_layout.specs.Cutting.{IsCut}
 use Rattle.mj_layout.proofs.Striped.{Sizes}
-use Rattle.mj_layout.proofs.Placed.{div_rises, mod_rises, placed}
+use Rattle.mj_layout.proofs.Placed.{div_rises, mod_rises, placed, within}
 
 -- where the unit of a position begins in its object
 abbrev pub row_of : Striping → ℕ → ℕ
@@ -41,6 +41,20 @@ cut_later s z n at later = record {
     div_rises (x / s.su / s.sc) (at / s.su / s.sc) (s.os / s.su) z.units (div_rises (x / s.su) (at / s.su) s.sc z.sc (div_rises x at s.su (omega (arith, z.su)) (omega (arith, h)))),
   ));
   above = λ x e h. omega arith;
+}
+
+-- an object of an earlier set
+pub cut_earlier : (s : Striping) → Sizes s → (n at : ℕ) → n / s.sc < object_of s at / s.sc → IsCut s n at s.os
+cut_earlier s z n at earlier = record {
+  below = λ x e h. within s z x;
+  above = λ x e h. absurd (omega (
+    arith,
+    earlier,
+    ap (λ i. i / s.sc) (sym e),
+    object_set s z x,
+    object_set s z at,
+    div_rises (at / s.su / s.sc) (x / s.su / s.sc) (s.os / s.su) z.units (div_rises (at / s.su) (x / s.su) s.sc z.sc (div_rises at x s.su (omega (arith, z.su)) h)),
+  ));
 }
 
 -- the position's own object

@@ -43,13 +43,7 @@ fn positions_go_round_the_columns(rt: HostRuntime) -> Result<(), Fail> {
     ] {
         assert_eq!(rt; layout.place(x), Spot { index, offset }, "at {x}");
     }
-    assert_eq!(rt;
-        plain.position_of(Spot {
-            index: 1,
-            offset: 0
-        }),
-        4_194_304
-    );
+    assert_eq!(rt; plain.position_of(plain.place(4_194_304)), 4_194_304);
     let extent = striped.extent(17_825_791, 20_971_520);
     assert_eq!(rt;
         extent,

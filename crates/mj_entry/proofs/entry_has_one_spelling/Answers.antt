@@ -1,4 +1,4 @@
-use Rattle.std.proofs.Common.{◌≡◌, ◌∙◌, ap, arith, ℕ, ◌+◌, sym}
+use Rattle.std.proofs.Common.{◌∙◌, ap, arith}
 use Rattle.mj_entry.specs.Entry.EntryCase.{Whole}
 use Rattle.mj_entry.proofs.Envelope.{entry_whole, entry_front, entry_made}
 use Rattle.mj_entry.proofs.entry_has_one_spelling.Goals as goal
