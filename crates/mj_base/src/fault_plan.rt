@@ -6,7 +6,8 @@ ghost use Rattle.mj_base.specs.FaultPlan.{is_next_failing, after_call, after_fau
 use std::alloc::{AllocError, Global};
 use std::marker::Model;
 
-/// The numbers of the calls that are to fail, counted from 1, with a count of the calls and one of the faults.
+/// The numbers of the calls that are to fail, counted from 1, with a count of the calls and one of
+/// the faults.
 #[derive(Drop)]
 pub struct FaultPlan {
     failing: Vec<u64>,

@@ -1,7 +1,8 @@
 //! Files by name, as the program reads and writes them.
 
-ghost use Rattle.std.specs.Prelude.{◌≡◌, ◌⊎◌, ℕ, ◌<◌, ◌≤◌, option_map, Option, vec_len, OnOk, OnErr, IfOk, IfErr, IsErrOf};
-ghost use Rattle.mj_base.specs.declared.files.FileRefusal.TheVariants.{Memory};
+ghost use Rattle.std.specs.Prelude.{◌≡◌, ◌⊎◌, ◌<◌, ◌≤◌, ℕ, Option, option_map, vec_len};
+ghost use Rattle.std.specs.Prelude.{OnOk, OnErr, IfOk, IfErr, IsErrOf};
+ghost use Rattle.mj_base.specs.declared.files.FileRefusal.TheVariants.{TooLong, Failed, Memory};
 ghost use Rattle.mj_base.specs.Files.{FilesByName, IfTold, IsRefusalOf, with_file};
 ghost use Rattle.mj_base.specs.Counts.{Rose};
 
@@ -50,21 +51,24 @@ pub trait Files {
     /// The bytes of the file of this name. No file is changed.
     fn read(&mut self, alloc: Global, name: &str) -> Result<Vec<u8>, FileRefusal>
         // what is held under that name decides, but for a counted fault and want of memory
-        ensures ok { IfTold (told self.old) (λ files. IfOk result (λ bytes. files name.now ≡ Some bytes.items)) }
-        ensures err { IfTold (told self.old) (λ files. IfErr result (IsRefusalOf (files name.now))) }
+        ensures ok { IfTold (told self.old) (λ files.
+            IfOk result (λ bytes. files name.now ≡ Some bytes.items)) }
+        ensures err { IfTold (told self.old) (λ files.
+            IfErr result (IsRefusalOf (files name.now))) }
         ensures unchanged { told self.new ≡ told self.old }
 
         // in any case
         ensures limit { IfOk result (λ bytes. vec_len bytes ≤ MAX_FILE_BYTES) }
-        ensures too_long { (n : ℕ) → IsErrOf result (FileRefusal.TooLong n) → MAX_FILE_BYTES < n }
-        ensures failed { IsErrOf result FileRefusal.Failed → Rose (faults self.old) (faults self.new) }
+        ensures too_long { (n : ℕ) → IsErrOf result (TooLong n) → MAX_FILE_BYTES < n }
+        ensures failed { IsErrOf result Failed → Rose (faults self.old) (faults self.new) }
         ensures later { faults self.old ≤ faults self.new };
 
     /// Replaces the file of this name, which need not be there. No other file is changed.
     fn write(&mut self, alloc: Global, name: &str, bytes: &[u8]) -> Result<(), FileRefusal>
-        ensures ok { OnOk result (told self.new ≡ option_map (with_file name.now bytes.now) (told self.old)) }
+        ensures ok { OnOk result
+            (told self.new ≡ option_map (with_file name.now bytes.now) (told self.old)) }
         ensures err { OnErr result (told self.new ≡ told self.old) }
-        ensures kinds { IfErr result (λ e. (e ≡ FileRefusal.Failed) ⊎ (e ≡ FileRefusal.Memory)) }
-        ensures failed { IsErrOf result FileRefusal.Failed → Rose (faults self.old) (faults self.new) }
+        ensures kinds { IfErr result (λ e. (e ≡ Failed) ⊎ (e ≡ Memory)) }
+        ensures failed { IsErrOf result Failed → Rose (faults self.old) (faults self.new) }
         ensures later { faults self.old ≤ faults self.new };
 }

@@ -1,6 +1,8 @@
-//! The adapters over real files and standard output. They tell nothing of contents: what the system does is trusted.
+//! The adapters over real files and standard output. They tell nothing of contents: what the system
+//! does is trusted.
 
 ghost use Rattle.std.specs.Prelude.{◌≡◌, ◌<◌, ◌≤◌, ℕ, length, vec_len, IfOk, IfSome, IsErrOf, None};
+ghost use Rattle.mj_base.specs.declared.files.FileRefusal.TheVariants.{TooLong};
 
 use crate::files::{FileRefusal, Files, MAX_FILE_BYTES};
 use crate::sink::{Sink, SinkFault};
@@ -17,7 +19,9 @@ pub struct HostFiles<'a, R> {
 }
 
 impl<'a, R: rt::Files> HostFiles<'a, R> {
-    pub fn new(rt: &'a R) -> HostFiles<'a, R> {
+    pub fn new(rt: &'a R) -> HostFiles<'a, R>
+        ensures { ⟦<HostFiles<'a, R> as Files>⟧.faults result ≡ 0 }
+    {
         HostFiles { rt, faults: 0 }
     }
 }
@@ -25,7 +29,7 @@ impl<'a, R: rt::Files> HostFiles<'a, R> {
 // Reads to the end in pieces, as long as there are not too many bytes.
 fn read_pieces<F: Read>(alloc: Global, file: &mut F) -> Result<Vec<u8>, FileRefusal>
     ensures limit { IfOk result (λ bytes. vec_len bytes ≤ MAX_FILE_BYTES) }
-    ensures too_long { (n : ℕ) → IsErrOf result (FileRefusal.TooLong n) → MAX_FILE_BYTES < n }
+    ensures too_long { (n : ℕ) → IsErrOf result (TooLong n) → MAX_FILE_BYTES < n }
 {
     let mut bytes = Vec::new(alloc);
     let mut piece = [0u8; 8192];
@@ -46,7 +50,7 @@ fn read_pieces<F: Read>(alloc: Global, file: &mut F) -> Result<Vec<u8>, FileRefu
 
 fn read_file<R: rt::Files>(rt: &R, alloc: Global, name: &str) -> Result<Vec<u8>, FileRefusal>
     ensures limit { IfOk result (λ bytes. vec_len bytes ≤ MAX_FILE_BYTES) }
-    ensures too_long { (n : ℕ) → IsErrOf result (FileRefusal.TooLong n) → MAX_FILE_BYTES < n }
+    ensures too_long { (n : ℕ) → IsErrOf result (TooLong n) → MAX_FILE_BYTES < n }
 {
     let mut file = match fs::open(rt, name) {
         Ok(file) => file,
@@ -107,7 +111,9 @@ pub struct HostSink<'a, R> {
 }
 
 impl<'a, R: Print> HostSink<'a, R> {
-    pub fn new(rt: &'a R) -> HostSink<'a, R> {
+    pub fn new(rt: &'a R) -> HostSink<'a, R>
+        ensures { ⟦<HostSink<'a, R> as Sink>⟧.faults result ≡ 0 }
+    {
         HostSink { rt, faults: 0 }
     }
 }

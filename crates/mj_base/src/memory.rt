@@ -1,7 +1,9 @@
 //! Files and a sink in memory. They tell everything, and fail the calls that they are told to.
 
-ghost use Rattle.std.specs.Prelude.{◌≡◌, ◌⊎◌, ◌<◌, ◌≤◌, ℕ, List, [], ◌++◌, length, take, vec_len, IsTrue, IfOk, IfErr, OnOk, OnErr, IsErr, IsErrOf, ◌↔◌, Some, None};
+ghost use Rattle.std.specs.Prelude.{◌≡◌, ◌⊎◌, ◌↔◌, ◌<◌, ◌≤◌, ℕ, List, [], ◌++◌, length, take};
+ghost use Rattle.std.specs.Prelude.{vec_len, Some, None, IsTrue, IfOk, IfErr, OnOk, OnErr, IsErr, IsErrOf};
 ghost use Rattle.mj_base.specs.Counts.{Rose};
+ghost use Rattle.mj_base.specs.declared.files.FileRefusal.TheVariants.{TooLong, Failed, Memory};
 ghost use Rattle.mj_base.specs.Files.{IfTold, IsRefusalOf, with_file};
 ghost use Rattle.mj_base.specs.FaultPlan.{is_next_failing, after_call, new_plan};
 ghost use Rattle.mj_base.specs.Memory.{files_of, files_plan, taken_by, sink_plan, room_of};
@@ -46,8 +48,8 @@ impl MemFiles {
 fn whole(alloc: Global, held: &[u8]) -> Result<Vec<u8>, FileRefusal>
     ensures ok { IfOk result (λ bytes. bytes.items ≡ held.now) }
     ensures limit { IfOk result (λ bytes. vec_len bytes ≤ MAX_FILE_BYTES) }
-    ensures err { IfErr result (λ e. (e ≡ FileRefusal.Memory) ⊎ (e ≡ FileRefusal.TooLong (length held.now))) }
-    ensures too_long { (n : ℕ) → IsErrOf result (FileRefusal.TooLong n) → MAX_FILE_BYTES < n }
+    ensures err { IfErr result (λ e. (e ≡ Memory) ⊎ (e ≡ TooLong (length held.now))) }
+    ensures too_long { (n : ℕ) → IsErrOf result (TooLong n) → MAX_FILE_BYTES < n }
 {
     let len = held.len() as u64;
     if len > MAX_FILE_BYTES {
@@ -63,16 +65,20 @@ impl Files for MemFiles {
 
     fn read(&mut self, alloc: Global, name: &str) -> Result<Vec<u8>, FileRefusal>
         // as the trait says
-        ensures ok { IfTold (Some (files_of self.old)) (λ files. IfOk result (λ bytes. files name.now ≡ Some bytes.items)) }
-        ensures err { IfTold (Some (files_of self.old)) (λ files. IfErr result (IsRefusalOf (files name.now))) }
+        ensures ok { IfTold (Some (files_of self.old)) (λ files.
+            IfOk result (λ bytes. files name.now ≡ Some bytes.items)) }
+        ensures err { IfTold (Some (files_of self.old)) (λ files.
+            IfErr result (IsRefusalOf (files name.now))) }
         ensures unchanged { Some (files_of self.new) ≡ Some (files_of self.old) }
         ensures limit { IfOk result (λ bytes. vec_len bytes ≤ MAX_FILE_BYTES) }
-        ensures too_long { (n : ℕ) → IsErrOf result (FileRefusal.TooLong n) → MAX_FILE_BYTES < n }
-        ensures failed { IsErrOf result FileRefusal.Failed → Rose (files_plan self.old).faults (files_plan self.new).faults }
+        ensures too_long { (n : ℕ) → IsErrOf result (TooLong n) → MAX_FILE_BYTES < n }
+        ensures failed { IsErrOf result Failed →
+            Rose (files_plan self.old).faults (files_plan self.new).faults }
         ensures later { (files_plan self.old).faults ≤ (files_plan self.new).faults }
 
         // exactly the listed calls fail
-        ensures planned { IsErrOf result FileRefusal.Failed ↔ IsTrue (is_next_failing (files_plan self.old)) }
+        ensures planned { IsErrOf result Failed ↔
+            IsTrue (is_next_failing (files_plan self.old)) }
         ensures counted { files_plan self.new ≡ after_call (files_plan self.old) }
     {
         if self.plan.next_fails() {
@@ -86,14 +92,17 @@ impl Files for MemFiles {
 
     fn write(&mut self, alloc: Global, name: &str, bytes: &[u8]) -> Result<(), FileRefusal>
         // as the trait says
-        ensures ok { OnOk result (Some (files_of self.new) ≡ Some (with_file name.now bytes.now (files_of self.old))) }
+        ensures ok { OnOk result
+            (Some (files_of self.new) ≡ Some (with_file name.now bytes.now (files_of self.old))) }
         ensures err { OnErr result (Some (files_of self.new) ≡ Some (files_of self.old)) }
-        ensures kinds { IfErr result (λ e. (e ≡ FileRefusal.Failed) ⊎ (e ≡ FileRefusal.Memory)) }
-        ensures failed { IsErrOf result FileRefusal.Failed → Rose (files_plan self.old).faults (files_plan self.new).faults }
+        ensures kinds { IfErr result (λ e. (e ≡ Failed) ⊎ (e ≡ Memory)) }
+        ensures failed { IsErrOf result Failed →
+            Rose (files_plan self.old).faults (files_plan self.new).faults }
         ensures later { (files_plan self.old).faults ≤ (files_plan self.new).faults }
 
         // exactly the listed calls fail
-        ensures planned { IsErrOf result FileRefusal.Failed ↔ IsTrue (is_next_failing (files_plan self.old)) }
+        ensures planned { IsErrOf result Failed ↔
+            IsTrue (is_next_failing (files_plan self.old)) }
         ensures counted { files_plan self.new ≡ after_call (files_plan self.old) }
     {
         if self.plan.next_fails() {
@@ -152,16 +161,20 @@ impl Sink for MemSink {
         // as the trait says
         ensures most { IfOk result (λ n. n ≤ length bytes.now) }
         ensures some { IfOk result (λ n. 0 < length bytes.now → 0 < n) }
-        ensures ok { IfOk result (λ n. Some (taken_by self.new) ≡ Some (taken_by self.old ++ take n bytes.now)) }
+        ensures ok { IfOk result (λ n.
+            Some (taken_by self.new) ≡ Some (taken_by self.old ++ take n bytes.now)) }
         ensures err { OnErr result (Some (taken_by self.new) ≡ Some (taken_by self.old)) }
-        ensures cause { OnErr result (Rose (sink_plan self.old).faults (sink_plan self.new).faults) }
+        ensures cause { OnErr result
+            (Rose (sink_plan self.old).faults (sink_plan self.new).faults) }
         ensures later { (sink_plan self.old).faults ≤ (sink_plan self.new).faults }
 
         // each piece is taken whole, but at the listed calls
         ensures whole { IfOk result (λ n. n ≡ length bytes.now) }
         ensures planned { IsTrue (is_next_failing (sink_plan self.old)) → IsErr result }
         // a call that is not listed fails only where its bytes want memory
-        ensures unplanned { OnErr result (IsTrue (is_next_failing (sink_plan self.old)) ⊎ (room_of self.old < length bytes.now)) }
+        ensures unplanned { OnErr result
+            (IsTrue (is_next_failing (sink_plan self.old))
+            ⊎ (room_of self.old < length bytes.now)) }
         ensures calls { (sink_plan self.new).calls ≡ (after_call (sink_plan self.old)).calls }
         ensures failing { (sink_plan self.new).failing ≡ (sink_plan self.old).failing }
     {

@@ -38,8 +38,8 @@ fn a_sink_in_memory(rt: HostRuntime) -> Result<(), Fail> {
     Ok(())
 }
 
-// The files of the system: one that is written and replaced, a missing one, one that is too long, and a name that is
-// no file. Standard output takes a piece.
+// The files of the system: one that is written and replaced, a missing one, one that is too long,
+// and a name that is no file. Standard output takes a piece.
 #[test]
 fn the_system(rt: HostRuntime) -> Result<(), Fail> {
     let alloc = rt.alloc();

@@ -1,6 +1,7 @@
 //! Where the program's text goes.
 
-ghost use Rattle.std.specs.Prelude.{◌≡◌, ℕ, ◌<◌, ◌≤◌, List, length, take, Option, OnOk, OnErr, IfOk};
+ghost use Rattle.std.specs.Prelude.{◌≡◌, ◌<◌, ◌≤◌, ℕ, List, length, take, Option};
+ghost use Rattle.std.specs.Prelude.{OnOk, OnErr, IfOk};
 ghost use Rattle.mj_base.specs.Counts.{Rose};
 ghost use Rattle.mj_base.specs.Sink.{then_taken, TakesFront};
 
@@ -16,11 +17,13 @@ pub trait Sink {
     /// How often a call has failed. It never falls.
     ghost faults: { Self → ℕ };
 
-    /// Takes bytes from the front of the piece, and answers how many: at least one, unless the piece is empty.
+    /// Takes bytes from the front of the piece, and answers how many: at least one, unless the
+    /// piece is empty.
     fn put(&mut self, bytes: &[u8]) -> Result<usize, SinkFault>
         ensures most { IfOk result (λ n. n ≤ length bytes.now) }
         ensures some { IfOk result (λ n. 0 < length bytes.now → 0 < n) }
-        ensures ok { IfOk result (λ n. taken self.new ≡ then_taken (take n bytes.now) (taken self.old)) }
+        ensures ok { IfOk result (λ n.
+            taken self.new ≡ then_taken (take n bytes.now) (taken self.old)) }
         ensures err { OnErr result (taken self.new ≡ taken self.old) }
         ensures cause { OnErr result (Rose (faults self.old) (faults self.new)) }
         ensures later { faults self.old ≤ faults self.new };
