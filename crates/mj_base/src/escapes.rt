@@ -80,7 +80,8 @@ fn append_byte(byte: u8, out: &mut Vec<u8>) -> Result<(), AllocError>
     out.extend_from_slice(&[b'%', hex_digit(byte / 16), hex_digit(byte % 16)])
 }
 
-fn hex_digit(value: u8) -> u8
+/// The lower-case digit of a value below 16.
+pub fn hex_digit(value: u8) -> u8
     requires { value < 16 }
     ensures { result ≡ digit_glyph false value }
 {

@@ -18,6 +18,7 @@ mod outside_tests;
 mod path;
 mod record;
 mod record_grammar;
+mod short_text;
 mod sink;
 
 pub use cursor::{Cursor, Fault, put_u8, put_u16, put_u32, put_u64};
