@@ -1,0 +1,118 @@
+-- What a journaler's calls answer and leave.
+use Rattle.std.specs.Prelude.{◌≡◌, ◌⊎◌, ℕ, ◌+◌, ◌-◌, ◌*◌, ◌/◌, ◌^◌, ◌==◌, ◌&&◌, ◌||◌, nat_le, nat_lt, Option, Some, None, List, [], ◌∷◌, ◌++◌, length, take, drop, if◌then◌else◌}
+use Rattle.mj_base.specs.declared.object.ObjectName.{ObjectName}
+use Rattle.mj_base.specs.declared.object.ObjectName.TheVariants.{File}
+use Rattle.mj_base.specs.ObjectName.{journal_ino}
+use Rattle.mj_store.specs.declared.act.ObjectAct.{ObjectAct}
+use Rattle.mj_store.specs.declared.act.ObjectAct.TheVariants.{Write, Truncate, Remove}
+use Rattle.mj_store.specs.declared.act.ObjectOp.{ObjectOp}
+use Rattle.mj_layout.specs.Striping.{Striping, period}
+use Rattle.mj_layout.specs.Place.{object_of, offset_of}
+use Rattle.mj_layout.specs.Header.{header_bytes}
+use Rattle.mj_layout.specs.declared.Header.{Header}
+use Rattle.mj_entry.specs.Entry.{entry_bytes, entry_length}
+use Rattle.mj_journaler.specs.Journal.{Journal, Sent, Offer, Flush, Head, Removal, layout_of, end_of, unsafe_of, window_of, flush_end}
+use Rattle.mj_journaler.specs.Outstanding.{lowest, without, without_head, live_after, without_removal, last_end, ends_above, first_set, trimmed_of}
+use Rattle.mj_journaler.specs.declared.AppendRefusal.{AppendRefusal}
+use Rattle.mj_journaler.specs.declared.AppendRefusal.TheVariants.{Full, Spent}
+
+abbrev pub journal_object : ℕ → ℕ → ObjectName
+journal_object rank index = File (journal_ino rank) index
+
+-- ---- the start
+
+abbrev pub begun : Header → ℕ → ℕ → Journal
+begun header rank tail = record {
+  rank = rank;
+  tail = tail;
+  trimmed = header.trimmed;
+  header = header;
+  live = header.expire;
+  safe = tail;
+  flushed = tail;
+  buffer = [];
+  ends = [];
+  sent = [];
+  heads = [];
+  removals = [];
+  removing = first_set header.layout header.trimmed * header.layout.sc;
+  offer = None;
+  room = 0;
+}
+
+-- ---- appending
+
+-- the unsafe bytes may not pass 8 MiB, and no entry ends above 2^62 - 1
+abbrev pub append_refusal : Journal → List ℕ → Option AppendRefusal
+append_refusal j payload =
+    if nat_lt 8388608 (unsafe_of j + entry_length payload) then Some (Full (unsafe_of j))
+    else if nat_lt (2 ^ 62 - 1) (end_of j + entry_length payload) then Some (Spent (end_of j))
+    else None
+
+abbrev pub appended : List ℕ → Journal → Journal
+appended payload j = record j {
+  buffer = j.buffer ++ entry_bytes (end_of j) payload;
+  ends = j.ends ++ (end_of j + entry_length payload) ∷ [];
+  room = j.room - entry_length payload;
+}
+
+-- ---- writes of the stream
+
+abbrev pub flush_of : Journal → Option Offer
+flush_of j = if (length j.buffer == 0) || (j.flushed == window_of j) then None else Some (Flush (flush_end j))
+
+-- ---- headers
+
+abbrev pub header_now : Journal → ℕ → Header
+header_now j expire = record j.header { trimmed = trimmed_of j; expire = expire; write = j.safe }
+
+abbrev pub head_of : Journal → ℕ → Option Offer
+head_of j expire = if (expire == j.header.expire) && (j.safe == j.header.write) then None else Some (Head (header_now j expire))
+
+-- ---- removals
+
+-- the least object not yet sent, where its set lies wholly below the expire that is acknowledged
+abbrev pub removal_of : Journal → Option Offer
+removal_of j =
+    let s = layout_of j in
+    if nat_le ((j.removing / s.sc + 1) * period s) j.live then Some (Removal j.removing) else None
+
+-- ---- what was given, and is sent
+
+-- the operation of what is given
+abbrev pub offer_op : Journal → Offer → ObjectOp
+offer_op j (Flush to) = record {
+  name = journal_object j.rank (object_of (layout_of j) j.flushed);
+  act = Write (offset_of (layout_of j) j.flushed) (take (to - j.flushed) j.buffer);
+}
+offer_op j (Head header) = record { name = journal_object j.rank 0; act = Write 0 (header_bytes header) }
+offer_op j (Removal index) = record { name = journal_object j.rank index; act = Remove }
+
+abbrev pub offered : Option Offer → Journal → Journal
+offered offer j = record j { offer = offer }
+
+abbrev pub taken : ℕ → Offer → Journal → Journal
+taken op (Flush to) j = record j {
+  flushed = to;
+  buffer = drop (to - j.flushed) j.buffer;
+  sent = j.sent ++ record { op = op; from = j.flushed; to = to } ∷ [];
+  offer = None;
+}
+taken op (Head header) j = record j { header = header; heads = j.heads ++ record { op = op; expire = header.expire } ∷ []; offer = None }
+taken op (Removal index) j = record j { removing = index + 1; removals = j.removals ++ record { op = op; index = index } ∷ []; offer = None }
+
+-- ---- acknowledgements
+
+-- every byte below here is acknowledged once this operation is
+abbrev pub acked_to : Journal → ℕ → ℕ
+acked_to j op = lowest (without op j.sent) j.flushed
+
+abbrev pub acknowledged : ℕ → Journal → Journal
+acknowledged op j = record j {
+  safe = last_end j.safe j.ends (acked_to j op);
+  ends = ends_above j.ends (acked_to j op);
+  sent = without op j.sent;
+  heads = without_head op j.heads;
+  live = live_after op j.heads j.live;
+  removals = without_removal op j.removals;
+}
