@@ -1,5 +1,5 @@
 -- A blob in bytes.
-use Rattle.std.specs.Prelude.{ℕ, ◌<◌, ◌^◌, Bool, not, ◌&&◌, ◌==◌, nat_lt, List, [], ◌∷◌, ◌++◌, length, map, IsTrue, Option, None, option_map}
+use Rattle.std.specs.Prelude.{ℕ, ◌<◌, ◌^◌, Bool, not, ◌&&◌, ◌==◌, nat_lt, List, [], ◌∷◌, ◌++◌, length, map, slice_index, IsTrue, Option, None, option_map}
 use Rattle.std.specs.List.{flat_map, list_any, AllByRecursion}
 use Rattle.std.specs.Ordering.{is_lt}
 use Rattle.mj_base.specs.Reading.{is_above, all_follow, two, four, eight}
@@ -14,6 +14,10 @@ use Rattle.mj_meta.specs.declared.RemoteBit.{RemoteBit}
 use Rattle.mj_meta.specs.declared.NullBit.{NullBit}
 use Rattle.mj_meta.specs.declared.DirLump.{DirLump}
 use Rattle.mj_meta.specs.declared.MetaBlob.{MetaBlob}
+
+-- each is below 256
+abbrev pub AreBytes : List ℕ → Type 0
+AreBytes bytes = (i : ℕ) → slice_index bytes i < 256
 
 abbrev pub name_bytes : List ℕ → List ℕ
 name_bytes name = two (length name) ++ name
@@ -31,8 +35,12 @@ abbrev pub head_bytes : HeadBit → List ℕ
 head_bytes (At version) = 1 ∷ eight version
 head_bytes Gone = 0 ∷ []
 
+-- a lump's directory, head and counts, before its bits
+abbrev pub lump_front : DirLump → List ℕ
+lump_front l = eight l.dir ++ head_bytes l.head ++ four (length l.full) ++ four (length l.remote) ++ four (length l.null)
+
 abbrev pub lump_bytes : DirLump → List ℕ
-lump_bytes l = eight l.dir ++ head_bytes l.head ++ four (length l.full) ++ four (length l.remote) ++ four (length l.null)
+lump_bytes l = lump_front l
     ++ flat_map full_bytes l.full ++ flat_map remote_bytes l.remote ++ flat_map null_bytes l.null
 
 abbrev pub blob_bytes : MetaBlob → List ℕ
