@@ -1,0 +1,5 @@
+pub mod SplitLemmas
+pub mod DigitsLemmas
+pub mod ScriptLemmas
+pub mod TextLemmas
+pub mod ObjectLemmas

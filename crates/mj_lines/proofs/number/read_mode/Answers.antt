@@ -1,0 +1,9 @@
+use Rattle.std.proofs.Common.{◌≡◌, length, ◌⊎◌, inl, inr, sym, ◌∙◌}
+use Rattle.mj_lines.proofs.DigitsLemmas.{mode_of_digits}
+use Rattle.mj_lines.proofs.number.read_mode.Goals as goal
+use Rattle.mj_lines.proofs.number.read_mode.Goals.{else-word-ne3-via-then-word-ne3+else-word-ne4, else-word-ne3-via-else-word-ne3}
+
+pub returns : goal.returns
+returns c =
+    let len : (length c.args.word.now ≡ 3) ⊎ (length c.args.word.now ≡ 4) = elim c.else-word-ne3.branch [ else-word-ne3-via-then-word-ne3+else-word-ne4 w ↦ inr w.if-word-ne4.false | else-word-ne3-via-else-word-ne3 w ↦ inl w.if-word-ne3.false ] in
+    c.ok.ensures.value ∙ mode_of_digits c.args.word.now c.in_ok-mode.mode c.try_from.result len (sym c.in_ok-mode.ensures) c.try_from.ensures

@@ -1,0 +1,10 @@
+use Rattle.std.proofs.Common.{◌≡◌, ◌+◌, ◌==◌, length, vec_len}
+use Rattle.std.specs.List.{slice_split}
+use Rattle.mj_lines.specs.Script.{before, lines_from}
+use Rattle.mj_lines.proofs.script.read_script.Given as goal
+
+abbrev pub invariant-lines : goal.invariant-lines
+invariant-lines l = lines_from 1 (slice_split (λ b. b == 10) l.bytes) ≡ before l.lines.items (lines_from (vec_len l.lines + 1) (slice_split (λ b. b == 10) l.rest))
+
+abbrev pub decreases-lines : goal.decreases-lines
+decreases-lines l = length l.rest

@@ -1,0 +1,16 @@
+//! The lines of a script, read and answered.
+#![tactic(auto)]
+
+mod answer;
+mod damage;
+mod line;
+mod number;
+mod reply;
+mod request;
+mod script;
+mod text;
+mod words;
+
+pub use answer::{Answer, append_turn};
+pub use line::{Line, read_line};
+pub use script::{MOST_LINES, ScriptRefusal, read_script};
