@@ -11,3 +11,8 @@ pub record Buffered : Type 0 where
 abbrev pub joined : List (Vec ℕ) → List ℕ
 joined [] = []
 joined (block ∷ blocks) = block.items ++ joined blocks
+
+-- the block that is taken from
+abbrev pub first_block : List (Vec ℕ) → List ℕ → List ℕ
+first_block [] last = last
+first_block (block ∷ blocks) last = block.items

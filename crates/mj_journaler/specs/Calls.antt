@@ -1,17 +1,16 @@
 -- What a journaler's calls answer and leave.
-use Rattle.std.specs.Prelude.{◌≡◌, ◌⊎◌, ℕ, ◌+◌, ◌-◌, ◌*◌, ◌/◌, ◌^◌, ◌==◌, ◌&&◌, ◌||◌, nat_le, nat_lt, Option, Some, None, List, [], ◌∷◌, ◌++◌, length, take, drop, if◌then◌else◌}
+use Rattle.std.specs.Prelude.{ℕ, ◌+◌, ◌-◌, ◌*◌, ◌/◌, ◌^◌, ◌==◌, ◌&&◌, ◌||◌, nat_le, nat_lt, Option, Some, None, List, [], ◌∷◌, ◌++◌, length, take, drop, if◌then◌else◌}
 use Rattle.mj_base.specs.declared.object.ObjectName.{ObjectName}
 use Rattle.mj_base.specs.declared.object.ObjectName.TheVariants.{File}
 use Rattle.mj_base.specs.ObjectName.{journal_ino}
-use Rattle.mj_store.specs.declared.act.ObjectAct.{ObjectAct}
-use Rattle.mj_store.specs.declared.act.ObjectAct.TheVariants.{Write, Truncate, Remove}
+use Rattle.mj_store.specs.declared.act.ObjectAct.TheVariants.{Write, Remove}
 use Rattle.mj_store.specs.declared.act.ObjectOp.{ObjectOp}
-use Rattle.mj_layout.specs.Striping.{Striping, period}
+use Rattle.mj_layout.specs.Striping.{period}
 use Rattle.mj_layout.specs.Place.{object_of, offset_of}
 use Rattle.mj_layout.specs.Header.{header_bytes}
 use Rattle.mj_layout.specs.declared.Header.{Header}
 use Rattle.mj_entry.specs.Entry.{entry_bytes, entry_length}
-use Rattle.mj_journaler.specs.Journal.{Journal, Sent, Offer, Flush, Head, Removal, layout_of, end_of, unsafe_of, window_of, flush_end}
+use Rattle.mj_journaler.specs.Journal.{Journal, Offer, Flush, Head, Removal, layout_of, end_of, unsafe_of, window_of, flush_end}
 use Rattle.mj_journaler.specs.Outstanding.{lowest, without, without_head, live_after, without_removal, last_end, ends_above, first_set, trimmed_of}
 use Rattle.mj_journaler.specs.declared.AppendRefusal.{AppendRefusal}
 use Rattle.mj_journaler.specs.declared.AppendRefusal.TheVariants.{Full, Spent}

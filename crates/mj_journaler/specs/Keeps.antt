@@ -1,10 +1,9 @@
 -- What each journaler keeps.
 use Rattle.std.specs.Prelude.{◌≡◌, ℕ, ◌+◌, ◌*◌, ◌/◌, ◌^◌, ◌<◌, ◌≤◌, Option, None, Some, List, [], ◌∷◌}
 use Rattle.mj_layout.specs.Striping.{IsStriping, period}
-use Rattle.mj_layout.specs.Place.{unit_end}
 use Rattle.mj_store.specs.Causes.{In}
-use Rattle.mj_journaler.specs.Journal.{Journal, Sent, HeadSent, RemovalSent, Offer, Flush, Head, Removal, layout_of, end_of, unsafe_of, window_of, flush_end}
-use Rattle.mj_journaler.specs.Outstanding.{last_end, trimmed_of}
+use Rattle.mj_journaler.specs.Journal.{Journal, Sent, HeadSent, Offer, Flush, Head, Removal, layout_of, end_of, unsafe_of, window_of, flush_end}
+use Rattle.mj_journaler.specs.Outstanding.{last_end}
 
 -- each is above the one before
 abbrev pub Rises : ℕ → List ℕ → Type 0

@@ -1,8 +1,8 @@
 -- What is out, and what is safe below it.
-use Rattle.std.specs.Prelude.{◌≡◌, ◌⊎◌, ℕ, ◌+◌, ◌-◌, ◌*◌, ◌/◌, ◌<◌, ◌≤◌, ◌==◌, min, max, nat_le, nat_lt, List, [], ◌∷◌, if◌then◌else◌, length}
-use Rattle.mj_layout.specs.Striping.{Striping, period, IsStriping}
+use Rattle.std.specs.Prelude.{◌≡◌, ◌⊎◌, ℕ, ◌+◌, ◌-◌, ◌*◌, ◌/◌, ◌<◌, ◌==◌, min, nat_le, nat_lt, List, [], ◌∷◌, if◌then◌else◌}
+use Rattle.mj_layout.specs.Striping.{Striping, period}
 use Rattle.mj_store.specs.Causes.{In}
-use Rattle.mj_journaler.specs.Journal.{Sent, HeadSent, RemovalSent, Journal, layout_of, end_of, unsafe_of, window_of}
+use Rattle.mj_journaler.specs.Journal.{Sent, HeadSent, RemovalSent, Journal, layout_of}
 
 -- the least position of which a write is out, at most the end
 abbrev pub lowest : List Sent → ℕ → ℕ

@@ -2,6 +2,8 @@
 //! It never calls a store.
 #![tactic(auto)]
 
+mod buffer;
+
 /// Why an entry was not appended.
 #[derive(Clone, Copy, Debug, PartialEq, Eq)]
 pub enum AppendRefusal {
