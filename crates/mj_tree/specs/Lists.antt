@@ -1,6 +1,5 @@
 -- Lists of records, links, opens and sessions as entries of maps, and their order.
-use Rattle.std.specs.Prelude.{ℕ, Bool, ◌&&◌, List, map}
-use Rattle.std.specs.List.{list_all}
+use Rattle.std.specs.Prelude.{ℕ, Bool, List, map}
 use Rattle.std.specs.FinMap.Entries.{is_sorted}
 use Rattle.mj_base.specs.declared.record.InodeRecord.{InodeRecord}
 use Rattle.mj_maps.specs.Orders.{nat_cmp, place_cmp, pair_cmp}
@@ -30,11 +29,19 @@ session_of c = record { oldest = c.oldest; kept = from_entries (kept_entries c.k
 abbrev pub session_entries : List PlainSession → List (ℕ × Session)
 session_entries = map (λ (c : PlainSession). (c.client, session_of c))
 
--- each list ascends by its keys
-abbrev pub is_session_in_order : PlainSession → Bool
-is_session_in_order c = is_sorted nat_cmp (kept_entries c.kept)
+-- whether a list ascends by its keys
 
-abbrev pub are_in_order : List InodeRecord → List PlainLink → List PlainOpen → List PlainSession → Bool
-are_in_order records links opens sessions =
-    is_sorted nat_cmp (record_entries records) && is_sorted place_cmp (link_entries links) && is_sorted pair_cmp (open_entries opens)
-    && is_sorted nat_cmp (session_entries sessions) && list_all is_session_in_order sessions
+abbrev pub do_records_rise : List InodeRecord → Bool
+do_records_rise records = is_sorted nat_cmp (record_entries records)
+
+abbrev pub do_links_rise : List PlainLink → Bool
+do_links_rise links = is_sorted place_cmp (link_entries links)
+
+abbrev pub do_opens_rise : List PlainOpen → Bool
+do_opens_rise opens = is_sorted pair_cmp (open_entries opens)
+
+abbrev pub do_sessions_rise : List PlainSession → Bool
+do_sessions_rise sessions = is_sorted nat_cmp (session_entries sessions)
+
+abbrev pub do_replies_rise : PlainSession → Bool
+do_replies_rise c = is_sorted nat_cmp (kept_entries c.kept)

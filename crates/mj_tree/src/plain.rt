@@ -1,7 +1,8 @@
 //! The plain tree: four lists and a number.
 
 ghost use Rattle.std.specs.Prelude.{IsTrue};
-ghost use Rattle.mj_tree.specs.Lists.{are_in_order};
+ghost use Rattle.std.specs.List.{list_all};
+ghost use Rattle.mj_tree.specs.Lists.{do_records_rise, do_links_rise, do_opens_rise, do_sessions_rise, do_replies_rise};
 
 use mj_base::{ClientId, Ino, InodeRecord, Items, Name, Tid};
 
@@ -46,5 +47,9 @@ pub struct PlainTree {
     pub links: Items<PlainLink>,
     pub opens: Items<PlainOpen>,
     pub sessions: Items<PlainSession>,
-    pub ghost in_order: { IsTrue (are_in_order records links opens sessions) },
+    pub ghost records_rise: { IsTrue (do_records_rise records) },
+    pub ghost links_rise: { IsTrue (do_links_rise links) },
+    pub ghost opens_rise: { IsTrue (do_opens_rise opens) },
+    pub ghost sessions_rise: { IsTrue (do_sessions_rise sessions) },
+    pub ghost replies_rise: { IsTrue (list_all do_replies_rise sessions) },
 }

@@ -1,0 +1,5 @@
+use Rattle.mj_tree.proofs.Looks.{opens_len}
+use Rattle.mj_tree.proofs.plain.PlainTree.open_count.Goals as goal
+
+pub returns : goal.returns
+returns c = rw c.len.ensures (opens_len c.args.self.now)

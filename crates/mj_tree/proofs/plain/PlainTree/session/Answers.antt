@@ -1,0 +1,5 @@
+use Rattle.mj_tree.proofs.Looks.{session_found}
+use Rattle.mj_tree.proofs.plain.PlainTree.session.Goals as goal
+
+pub returns : goal.returns
+returns c = rw c.session_in.ensures (session_found _ _)
