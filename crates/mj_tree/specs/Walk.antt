@@ -24,11 +24,6 @@ abbrev pub found : {A : Type 0} → Option A → Answer A
 found None = Err 2
 found (Some x) = Ok x
 
--- the same answer, of what is seen of it
-abbrev pub answered : {A B : Type 0} → (A → B) → Answer A → Answer B
-answered view (Ok x) = Ok (view x)
-answered view (Err code) = Err code
-
 abbrev pub Path : Type 0
 Path = List (List ℕ)
 

@@ -1,7 +1,9 @@
 //! The numbers of errors.
 
 ghost use Rattle.std.specs.Prelude.{◌≡◌};
+ghost use Rattle.mj_tree.specs.declared.errno.Stop.TheVariants.{Memory, Refused};
 
+use std::alloc::AllocError;
 use std::marker::Model;
 
 /// An error's number, as Linux's `errno` has it.
@@ -38,3 +40,26 @@ pub const EMLINK: Errno = Errno(31);
 pub const ENOTEMPTY: Errno = Errno(39);
 /// Stale file handle.
 pub const ESTALE: Errno = Errno(116);
+
+/// Why a request is not done.
+#[derive(Debug, Drop)]
+pub enum Stop {
+    Memory,
+    Refused(Errno),
+}
+
+impl From<AllocError> for Stop {
+    ghost from_gives = { λ _ e. e ≡ Memory };
+
+    fn from(_e: AllocError) -> Stop {
+        Stop::Memory
+    }
+}
+
+impl From<Errno> for Stop {
+    ghost from_gives = { λ code e. e ≡ Refused code };
+
+    fn from(code: Errno) -> Stop {
+        Stop::Refused(code)
+    }
+}

@@ -1,13 +1,15 @@
 //! Walking paths in a plain tree. Symlinks are not followed.
-ghost use Rattle.std.specs.Prelude.{◌≡◌, ◌<◌, Ok, length};
-ghost use Rattle.mj_tree.specs.Walk.{step, walk_from, walk, place, answered, begins};
+ghost use Rattle.std.specs.Prelude.{◌≡◌};
+ghost use Rattle.mj_tree.specs.Walk.{step, walk_from, walk, place, begins};
 ghost use Rattle.mj_tree.specs.State.{root};
+ghost use Rattle.mj_tree.specs.Given.{Gives};
 ghost use Rattle.mj_tree.specs.Meaning.{state_of};
 
-use crate::errno::{ENOENT, ENOTDIR, Errno};
+use crate::errno::{ENOENT, ENOTDIR, Errno, Stop};
 use crate::plain::PlainTree;
 use crate::tables::ROOT;
 use mj_base::{Ino, Name, Path};
+use std::alloc::Global;
 
 impl PlainTree {
     // One name further.
@@ -39,17 +41,17 @@ impl PlainTree {
     }
 
     /// The directory and the name in it that a path names. The root has none: for it the error is given.
-    pub(crate) fn place<'a>(&self, path: &'a Path, root: Errno) -> Result<(Ino, &'a Name), Errno>
-        ensures { answered (λ p. (p.0, p.1.now)) result ≡ place (state_of self.now) path.now root }
+    pub(crate) fn place(&self, alloc: Global, path: &Path, root: Errno) -> Result<(Ino, Name), Stop>
+        ensures { Gives result (place (state_of self.now) path.now root) }
     {
         let Some((name, dirs)) = path.names().split_last() else {
-            return Err(root);
+            return Err(Stop::Refused(root));
         };
         let dir = self.walk_names(dirs)?;
         if !self.is_dir(dir) {
-            return Err(ENOTDIR);
+            return Err(Stop::Refused(ENOTDIR));
         }
-        Ok((dir, name))
+        Ok((dir, name.copy(alloc)?))
     }
 }
 

@@ -1,4 +1,4 @@
-use Rattle.std.proofs.Common.{sym, ◌∙◌, rules}
+use Rattle.std.proofs.Common.{sym, ap, ◌∙◌, Ok, rules}
 use Rattle.mj_tree.specs.Meaning.{state_of}
 use Rattle.mj_tree.proofs.Paths.{place_ok, place_not_dir, place_err}
 use Rattle.mj_tree.proofs.plain.PlainTree.place.Goals as goal
@@ -11,10 +11,11 @@ returns-in_err-dir c =
 
 pub returns-then-not-is_dir : goal.returns-then-not-is_dir
 returns-then-not-is_dir c =
-    sym (place_not_dir (state_of c.args.self.now) c.args.path.now c.in-Some.dirs.now c.in-Some.name.now c.args.root c.in_ok-dir.dir
-        (sym c.names.ensures ∙ c.in-Some.ensures.cases.0) (sym c.walk_names.ensures ∙ c.in_ok-dir.was) (sym c.is_dir.ensures ∙ c.if-not-is_dir.true))
+    place_not_dir (state_of c.args.self.now) c.args.path.now c.in-Some.dirs.now c.in-Some.name.now c.args.root c.in_ok-dir.dir
+        (sym c.names.ensures ∙ c.in-Some.ensures.cases.0) (sym c.walk_names.ensures ∙ c.in_ok-dir.was) (sym c.is_dir.ensures ∙ c.if-not-is_dir.true)
 
 pub returns : goal.returns
 returns c =
-    sym (place_ok (state_of c.args.self.now) c.args.path.now c.in-Some.dirs.now c.in-Some.name.now c.args.root c.in_ok-dir.dir
-        (sym c.names.ensures ∙ c.in-Some.ensures.cases.0) (sym c.walk_names.ensures ∙ c.in_ok-dir.was) (sym c.is_dir.ensures ∙ c.if-not-is_dir.false))
+    place_ok (state_of c.args.self.now) c.args.path.now c.in-Some.dirs.now c.in-Some.name.now c.args.root c.in_ok-dir.dir
+        (sym c.names.ensures ∙ c.in-Some.ensures.cases.0) (sym c.walk_names.ensures ∙ c.in_ok-dir.was) (sym c.is_dir.ensures ∙ c.if-not-is_dir.false)
+    ∙ (λ z. Ok (c.in_ok-dir.dir, sym c.in_ok-copy.ensures.same z))
