@@ -11,7 +11,7 @@ use Rattle.mj_tree.specs.declared.request.Reply.{Reply}
 use Rattle.mj_tree.specs.declared.request.Reply.TheVariants as reply
 use Rattle.mj_tree.specs.State.{PlainState, new_state, record_of}
 use Rattle.mj_tree.specs.Row.{at_new, make, link, unlink, rename, rename_over, set_attr, open_file, release, effect, lookup, readdir}
-use Rattle.mj_tree.specs.Answer.{in_session, not_kept, decision, answer, after, after_all}
+use Rattle.mj_tree.specs.Answer.{changing, closing, in_session, opening, by_session, decision, answer, after, after_all}
 use Rattle.mj_tree.specs.Listing.{listing}
 
 abbrev ask : ℕ → ℕ → ℕ → Op → ClientRequest
@@ -27,7 +27,7 @@ first : List ClientRequest
 first = ask 4 1 100 SessionOpen ∷ ask 4 2 101 (Mkdir (codes "a" ∷ []) 0o755) ∷ []
 
 first_is : listing (after_all (new_state 0) first) true ≡ codes "/\n/a dir 0755 0 0 0 101 1 1099511627776\nnext 1099511627777\nsession 4 1\nreply 1 0\nreply 2 1099511627776\n"
-unfolding first entries get insert remove empty len collect at_new make effect in_session not_kept decision after listing digits
+unfolding first entries get insert remove empty len collect at_new make effect changing closing in_session opening by_session decision after listing digits
 first_is = refl
 
 -- a second link that outlives the first
@@ -35,7 +35,7 @@ links : List ClientRequest
 links = ask 4 1 100 SessionOpen ∷ ask 4 2 101 (Create (codes "f" ∷ []) 0o644) ∷ ask 4 3 102 (Link (codes "f" ∷ []) (codes "h" ∷ [])) ∷ ask 4 4 103 (Unlink (codes "f" ∷ [])) ∷ []
 
 links_are : listing (after_all (new_state 0) links) false ≡ codes "/\n/h file 0644 0 0 0 101 1 1099511627776\n"
-unfolding links entries get insert remove empty len collect at_new make link unlink effect in_session not_kept decision after listing digits
+unfolding links entries get insert remove empty len collect at_new make link unlink effect changing closing in_session opening by_session decision after listing digits
 links_are = refl
 
 -- an open file without a name, and its end
@@ -43,11 +43,11 @@ opens : List ClientRequest
 opens = ask 4 1 100 SessionOpen ∷ ask 4 2 101 (Create (codes "f" ∷ []) 0o644) ∷ ask 4 3 102 (OpenFile (codes "f" ∷ [])) ∷ ask 4 4 103 (Unlink (codes "f" ∷ [])) ∷ []
 
 opens_are : listing (after_all (new_state 0) opens) false ≡ codes "/\nkept 1099511627776 file 0644 0 0 0 101 0\nopen 4 1099511627776\n"
-unfolding opens entries get insert remove empty len collect at_new make unlink open_file effect in_session not_kept decision after listing digits
+unfolding opens entries get insert remove empty len collect at_new make unlink open_file effect changing closing in_session opening by_session decision after listing digits
 opens_are = refl
 
 released_are : listing (after_all (new_state 0) (opens ++ (ask 4 5 110 (Release 1099511627776) ∷ []))) false ≡ codes "/\n"
-unfolding opens entries get insert remove empty len collect at_new make unlink open_file release effect in_session not_kept decision after listing digits
+unfolding opens entries get insert remove empty len collect at_new make unlink open_file release effect changing closing in_session opening by_session decision after listing digits
 released_are = refl
 
 -- ordinary use, with a retry, a name that is missing and a name that is there
@@ -70,9 +70,9 @@ written = record { kind = kind.File; mode = 0o644; uid = 0; gid = 0; size = 0; m
 ordinary_is : replies (new_state 0) ordinary ≡ reply.Done 0 ∷ reply.Done 0 ∷ reply.Done 0 ∷ reply.Done 1099511627776 ∷ reply.Done 1099511627777 ∷ reply.Done 1099511627778
     ∷ reply.Found (record_of 1099511627778 1 written) ∷ reply.Done 1099511627778 ∷ reply.Done 1099511627778 ∷ reply.Error 2 ∷ reply.Done 1099511627778
     ∷ reply.Names (codes "ann" ∷ codes "todo.txt" ∷ []) ∷ reply.Error 17 ∷ []
-unfolding ordinary entries get insert remove empty len collect at_new make unlink rename rename_over set_attr lookup readdir effect in_session not_kept decision answer after
+unfolding ordinary entries get insert remove empty len collect at_new make unlink rename rename_over set_attr lookup readdir effect changing closing in_session opening by_session decision answer after
 ordinary_is = refl
 
 listing_is : listing (after_all (new_state 0) ordinary) false ≡ codes "/\n/home dir 0755 0 0 0 1001 1 1099511627776\n/home/ann dir 0755 0 0 0 1001 1 1099511627777\n/home/todo.txt file 0640 1000 1000 512 1003 1 1099511627778\n"
-unfolding ordinary entries get insert remove empty len collect at_new make unlink rename rename_over set_attr lookup readdir effect in_session not_kept decision after listing digits
+unfolding ordinary entries get insert remove empty len collect at_new make unlink rename rename_over set_attr lookup readdir effect changing closing in_session opening by_session decision after listing digits
 listing_is = refl

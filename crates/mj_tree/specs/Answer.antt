@@ -37,24 +37,36 @@ by_effect (Err code) = refused code
 abbrev pub still_kept : ClientRequest → Session → ℕ
 still_kept r c = count (λ (e : ℕ × ℕ). nat_le r.oldest e.0) c.kept
 
+-- a request that changes the tree, in the client's session
+unfoldable pub changing : PlainState → ClientRequest → Session → Decision
+changing s r c = if nat_le most_kept (still_kept r c) then refused 28 else by_effect (effect s r r.op)
+
+unfoldable pub closing : PlainState → ℕ → Decision
+closing s client = if nat_lt 0 (opens_of s client) then refused 22 else SessionEnds
+
 -- in the client's session
 unfoldable pub in_session : PlainState → ClientRequest → Session → Op → Decision
 in_session s r c (Lookup path) = looked (lookup s path)
 in_session s r c (Readdir path) = looked (readdir s path)
 in_session s r c (Readlink path) = looked (readlink s path)
-in_session s r c SessionClose = if nat_lt 0 (opens_of s r.client) then refused 22 else SessionEnds
-in_session s r c op = if nat_le most_kept (still_kept r c) then refused 28 else by_effect (effect s r op)
+in_session s r c SessionClose = closing s r.client
+in_session s r c _ = changing s r c
 
--- no reply is kept: by the client's session, if there is one
-unfoldable pub not_kept : PlainState → ClientRequest → Option Session → Op → Decision
-not_kept s r (Some c) SessionOpen = refused 17
-not_kept s r None SessionOpen = if nat_le most_sessions (len s.sessions) then refused 28 else SessionBegins
-not_kept s r None op = refused 116
-not_kept s r (Some c) op = if nat_lt r.tid c.oldest then refused 116 else in_session s r c op
+abbrev pub is_session_open : Op → Bool
+is_session_open SessionOpen = true
+is_session_open _ = false
+
+unfoldable pub opening : PlainState → Option Session → Decision
+opening s (Some c) = refused 17
+opening s None = if nat_le most_sessions (len s.sessions) then refused 28 else SessionBegins
+
+unfoldable pub by_session : PlainState → ClientRequest → Option Session → Decision
+by_session s r None = refused 116
+by_session s r (Some c) = if nat_lt r.tid c.oldest then refused 116 else in_session s r c r.op
 
 abbrev pub by_kept : PlainState → ClientRequest → Option ℕ → Decision
 by_kept s r (Some i) = Answered (Done i)
-by_kept s r None = not_kept s r (get s.sessions r.client) r.op
+by_kept s r None = let c = get s.sessions r.client in if is_session_open r.op then opening s c else by_session s r c
 
 -- the inode of the reply that is kept for this client and number
 abbrev pub kept_reply : PlainState → ℕ → ℕ → Option ℕ

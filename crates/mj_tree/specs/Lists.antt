@@ -7,8 +7,8 @@ use Rattle.mj_maps.specs.Map.{from_entries}
 use Rattle.mj_tree.specs.declared.change.Attributes.{Attributes}
 use Rattle.mj_tree.specs.declared.plain.PlainLink.{PlainLink}
 use Rattle.mj_tree.specs.declared.plain.PlainOpen.{PlainOpen}
-use Rattle.mj_tree.specs.declared.plain.KeptReply.{KeptReply}
-use Rattle.mj_tree.specs.declared.plain.PlainSession.{PlainSession}
+use Rattle.mj_tree.specs.declared.session.PlainSession.{PlainSession}
+use Rattle.mj_tree.specs.Replies.{kept_entries}
 use Rattle.mj_tree.specs.State.{Session, attributes_of}
 
 abbrev pub record_entries : List InodeRecord → List (ℕ × Attributes)
@@ -19,9 +19,6 @@ link_entries = map (λ (l : PlainLink). ((l.parent, l.name), l.ino))
 
 abbrev pub open_entries : List PlainOpen → List ((ℕ × ℕ) × Unit {0})
 open_entries = map (λ (o : PlainOpen). ((o.client, o.ino), tt))
-
-abbrev pub kept_entries : List KeptReply → List (ℕ × ℕ)
-kept_entries = map (λ (k : KeptReply). (k.tid, k.ino))
 
 abbrev pub session_of : PlainSession → Session
 session_of c = record { oldest = c.oldest; kept = from_entries (kept_entries c.kept) }
@@ -42,6 +39,3 @@ do_opens_rise opens = is_sorted pair_cmp (open_entries opens)
 
 abbrev pub do_sessions_rise : List PlainSession → Bool
 do_sessions_rise sessions = is_sorted nat_cmp (session_entries sessions)
-
-abbrev pub do_replies_rise : PlainSession → Bool
-do_replies_rise c = is_sorted nat_cmp (kept_entries c.kept)

@@ -42,7 +42,7 @@ pub const ENOTEMPTY: Errno = Errno(39);
 pub const ESTALE: Errno = Errno(116);
 
 /// Why a request is not done.
-#[derive(Debug, Drop)]
+#[derive(Clone, Copy, Debug)]
 pub enum Stop {
     Memory,
     Refused(Errno),

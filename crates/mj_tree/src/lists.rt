@@ -1,11 +1,15 @@
 // Look-ups and counts in lists.
-ghost use Rattle.std.specs.Prelude.{◌≡◌, ◌==◌, ◌&&◌, nat_le, count_by};
+ghost use Rattle.std.specs.Prelude.{◌≡◌, ◌==◌, ◌&&◌, nat_le, count_by, map, filter, IfOk};
 ghost use Rattle.std.specs.Option.{option_copied, option_map};
 ghost use Rattle.std.specs.List.{find};
+ghost use Rattle.mj_tree.specs.declared.plain.PlainLink.{PlainLink};
 ghost use Rattle.mj_base.specs.InOrder.{same_bytes};
 
-use crate::plain::{KeptReply, PlainLink, PlainOpen, PlainSession};
+use crate::plain::{PlainLink, PlainOpen};
+use crate::request::NameList;
+use crate::session::{KeptReply, PlainSession};
 use mj_base::{ClientId, Ino, InodeRecord, Items, Name, Tid};
+use std::alloc::{AllocError, Global};
 
 pub fn record_in(records: &Items<InodeRecord>, ino: Ino) -> Option<&InodeRecord>
     ensures { option_copied result ≡ find (λ r. r.ino == ino) records.now }
@@ -16,13 +20,20 @@ pub fn record_in(records: &Items<InodeRecord>, ino: Ino) -> Option<&InodeRecord>
 pub fn link_in(links: &Items<PlainLink>, dir: Ino, name: &Name) -> Option<Ino>
     ensures { result ≡ option_map (λ l. l.ino) (find (λ l. (l.parent == dir) && same_bytes l.name name.now) links.now) }
 {
-    links.as_slice().iter().find(|l| l.parent == dir && l.name == *name).map(|l| l.ino)
+    links
+        .as_slice()
+        .iter()
+        .find(|l| l.parent == dir && l.name == *name)
+        .map(|l| l.ino)
 }
 
 pub fn open_in(opens: &Items<PlainOpen>, client: ClientId, ino: Ino) -> Option<&PlainOpen>
     ensures { option_copied result ≡ find (λ o. (o.client == client) && (o.ino == ino)) opens.now }
 {
-    opens.as_slice().iter().find(|o| o.client == client && o.ino == ino)
+    opens
+        .as_slice()
+        .iter()
+        .find(|o| o.client == client && o.ino == ino)
 }
 
 pub fn session_in(sessions: &Items<PlainSession>, client: ClientId) -> Option<&PlainSession>
@@ -58,7 +69,11 @@ pub fn opens_to(opens: &Items<PlainOpen>, ino: Ino) -> usize
 pub fn opens_from(opens: &Items<PlainOpen>, client: ClientId) -> usize
     ensures { result ≡ count_by (λ o. o.client == client) opens.now }
 {
-    opens.as_slice().iter().filter(|o| o.client == client).count()
+    opens
+        .as_slice()
+        .iter()
+        .filter(|o| o.client == client)
+        .count()
 }
 
 /// How many replies are kept for this number and later ones.
@@ -66,4 +81,17 @@ pub fn kept_from(kept: &Items<KeptReply>, oldest: Tid) -> usize
     ensures { result ≡ count_by (λ k. nat_le oldest k.tid) kept.now }
 {
     kept.as_slice().iter().filter(|k| k.tid >= oldest).count()
+}
+
+/// The names of a directory's links.
+pub fn names_in(alloc: Global, links: &Items<PlainLink>, dir: Ino) -> Result<NameList, AllocError>
+    ensures { IfOk result (λ names. names ≡ map (λ (l : PlainLink). l.name) (filter (λ (l : PlainLink). l.parent == dir) links.now)) }
+{
+    let mut names = Vec::new(alloc);
+    for link in links.as_slice() {
+        if link.parent == dir {
+            names.push(link.name.copy(alloc)?)?;
+        }
+    }
+    Ok(Items::from_vec(names))
 }

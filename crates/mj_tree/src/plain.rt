@@ -1,10 +1,10 @@
 //! The plain tree: four lists and a number.
 
 ghost use Rattle.std.specs.Prelude.{IsTrue};
-ghost use Rattle.std.specs.List.{list_all};
-ghost use Rattle.mj_tree.specs.Lists.{do_records_rise, do_links_rise, do_opens_rise, do_sessions_rise, do_replies_rise};
+ghost use Rattle.mj_tree.specs.Lists.{do_records_rise, do_links_rise, do_opens_rise, do_sessions_rise};
 
-use mj_base::{ClientId, Ino, InodeRecord, Items, Name, Tid};
+use crate::session::PlainSession;
+use mj_base::{ClientId, Ino, InodeRecord, Items, Name};
 
 /// A name of an inode in a directory.
 #[derive(Drop)]
@@ -19,21 +19,6 @@ pub struct PlainLink {
 pub struct PlainOpen {
     pub client: ClientId,
     pub ino: Ino,
-}
-
-/// The inode that was the reply to a request.
-#[derive(Clone, Copy)]
-pub struct KeptReply {
-    pub tid: Tid,
-    pub ino: Ino,
-}
-
-/// A client's session, with the replies that are kept for it, ascending by their numbers.
-#[derive(Drop)]
-pub struct PlainSession {
-    pub client: ClientId,
-    pub oldest: Tid,
-    pub kept: Items<KeptReply>,
 }
 
 /// The tree by lists alone, each ascending by its keys: records by inode, links by directory and name, opens by
@@ -51,5 +36,4 @@ pub struct PlainTree {
     pub ghost links_rise: { IsTrue (do_links_rise links) },
     pub ghost opens_rise: { IsTrue (do_opens_rise opens) },
     pub ghost sessions_rise: { IsTrue (do_sessions_rise sessions) },
-    pub ghost replies_rise: { IsTrue (list_all do_replies_rise sessions) },
 }

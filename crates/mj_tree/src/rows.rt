@@ -7,13 +7,16 @@ ghost use Rattle.mj_tree.specs.Given.{Gives};
 ghost use Rattle.mj_tree.specs.Meaning.{state_of};
 
 use crate::change::{Attributes, Change, Settings};
-use crate::errno::{EEXIST, EINVAL, EISDIR, EMLINK, ENOENT, ENOSPC, ENOTDIR, ENOTEMPTY, Errno, Stop};
+use crate::errno::{
+    EEXIST, EINVAL, EISDIR, EMLINK, ENOENT, ENOSPC, ENOTDIR, ENOTEMPTY, Errno, Stop,
+};
 use crate::plain::PlainTree;
 use crate::walking;
 use mj_base::{ClientId, Ino, Name, Path};
 use std::alloc::Global;
 
 const MOST_LINKS: usize = 1_024;
+
 const MOST_OPENS: usize = 65_536;
 
 impl PlainTree {
@@ -40,7 +43,12 @@ impl PlainTree {
 
     /// A new directory, file or symlink.
     #[tactic(auto, unfolding(crate::specs::Row::make))]
-    pub(crate) fn make(&self, alloc: Global, path: &Path, attributes: Attributes) -> Result<(Ino, Change), Stop>
+    pub(crate) fn make(
+        &self,
+        alloc: Global,
+        path: &Path,
+        attributes: Attributes,
+    ) -> Result<(Ino, Change), Stop>
         ensures { Gives result (make (state_of self.now) path.now attributes) }
     {
         let place = self.place(alloc, path, EEXIST)?;
@@ -141,7 +149,12 @@ impl PlainTree {
     }
 
     #[tactic(auto, unfolding(crate::specs::Row::rename))]
-    pub(crate) fn rename(&self, alloc: Global, from: &Path, to: &Path) -> Result<(Ino, Change), Stop>
+    pub(crate) fn rename(
+        &self,
+        alloc: Global,
+        from: &Path,
+        to: &Path,
+    ) -> Result<(Ino, Change), Stop>
         ensures { Gives result (rename (state_of self.now) from.now to.now) }
     {
         if from.names().is_empty() || to.names().is_empty() {

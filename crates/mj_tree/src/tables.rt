@@ -8,13 +8,15 @@ ghost use Rattle.mj_tree.specs.Lists.{session_of};
 ghost use Rattle.mj_tree.specs.Meaning.{state_of};
 
 use crate::lists;
-use crate::plain::{PlainSession, PlainTree};
+use crate::plain::PlainTree;
+use crate::session::PlainSession;
 use mj_base::{ClientId, Ino, InodeRecord, Kind, Name};
 
 /// The inode of the root.
 pub const ROOT: Ino = Ino(1);
 
 const MOST_ENTRIES: usize = 100_000;
+
 const MOST_INODES: usize = 1_048_576;
 
 // Whether there is a record, of this kind.

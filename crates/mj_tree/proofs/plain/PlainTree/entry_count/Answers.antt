@@ -1,4 +1,4 @@
-use Rattle.mj_tree.proofs.Looks.{entry_count_is}
+use Rattle.mj_tree.proofs.Listed.{entry_count_is}
 use Rattle.mj_tree.proofs.plain.PlainTree.entry_count.Goals as goal
 
 pub returns : goal.returns

@@ -1,5 +1,5 @@
 use Rattle.std.proofs.Common.{ap, nat_lt, ◌∙◌}
-use Rattle.mj_tree.proofs.Looks.{opens_of_is}
+use Rattle.mj_tree.proofs.Listed.{opens_of_is}
 use Rattle.mj_tree.proofs.plain.PlainTree.has_opens.Goals as goal
 
 pub returns : goal.returns

@@ -1,4 +1,4 @@
-use Rattle.mj_tree.proofs.Looks.{records_len}
+use Rattle.mj_tree.proofs.Listed.{records_len}
 use Rattle.mj_tree.proofs.plain.PlainTree.inode_count.Goals as goal
 
 pub returns : goal.returns

@@ -1,5 +1,5 @@
 use Rattle.std.proofs.Common.{ap, is_some, ◌∙◌}
-use Rattle.mj_tree.proofs.Looks.{open_found, some_mapped}
+use Rattle.mj_tree.proofs.Listed.{open_found, some_mapped}
 use Rattle.mj_tree.proofs.plain.PlainTree.is_open.Goals as goal
 
 pub returns : goal.returns

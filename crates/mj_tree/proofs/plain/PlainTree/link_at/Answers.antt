@@ -1,4 +1,4 @@
-use Rattle.mj_tree.proofs.Looks.{link_found}
+use Rattle.mj_tree.proofs.Listed.{link_found}
 use Rattle.mj_tree.proofs.plain.PlainTree.link_at.Goals as goal
 
 pub returns : goal.returns

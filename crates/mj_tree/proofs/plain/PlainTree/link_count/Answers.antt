@@ -1,4 +1,4 @@
-use Rattle.mj_tree.proofs.Looks.{link_count_is}
+use Rattle.mj_tree.proofs.Listed.{link_count_is}
 use Rattle.mj_tree.proofs.plain.PlainTree.link_count.Goals as goal
 
 pub returns : goal.returns

@@ -1,4 +1,4 @@
-use Rattle.mj_tree.proofs.Looks.{opens_len}
+use Rattle.mj_tree.proofs.Listed.{opens_len}
 use Rattle.mj_tree.proofs.plain.PlainTree.open_count.Goals as goal
 
 pub returns : goal.returns

@@ -1,4 +1,4 @@
-use Rattle.mj_tree.proofs.Looks.{open_count_is}
+use Rattle.mj_tree.proofs.Listed.{open_count_is}
 use Rattle.mj_tree.proofs.plain.PlainTree.opens_to.Goals as goal
 
 pub returns : goal.returns

@@ -1,4 +1,4 @@
-use Rattle.mj_tree.proofs.Looks.{record_found}
+use Rattle.mj_tree.proofs.Listed.{record_found}
 use Rattle.mj_tree.proofs.plain.PlainTree.record.Goals as goal
 
 pub returns : goal.returns

@@ -1,4 +1,4 @@
-use Rattle.mj_tree.proofs.Looks.{session_found}
+use Rattle.mj_tree.proofs.Listed.{session_found}
 use Rattle.mj_tree.proofs.plain.PlainTree.session.Goals as goal
 
 pub returns : goal.returns

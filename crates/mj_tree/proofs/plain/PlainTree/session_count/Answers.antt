@@ -1,4 +1,4 @@
-use Rattle.mj_tree.proofs.Looks.{sessions_len}
+use Rattle.mj_tree.proofs.Listed.{sessions_len}
 use Rattle.mj_tree.proofs.plain.PlainTree.session_count.Goals as goal
 
 pub returns : goal.returns

@@ -1,6 +1,6 @@
 -- What is found and counted in a list, against the map that the list makes.
-use Rattle.std.proofs.Common.{Ordering, ◌≡◌, ℕ, ◌+◌, ◌<◌, Bool, true, false, ◌==◌, ◌&&◌, cond, List, [], ◌∷◌, map, filter, count_by, length, suc, Option, Some, None, is_some, refl, sym, ap, ◌∙◌, arith, T, IsTrue}
-use Rattle.std.specs.Option.{option_map}
+use Rattle.std.proofs.Common.{Ordering, ◌≡◌, ℕ, ◌+◌, ◌<◌, Bool, true, false, ◌==◌, ◌&&◌, cond, List, [], ◌∷◌, map, filter, count_by, length, suc, Option, Some, None, is_some, nat_le, refl, sym, ap, ◌∙◌, arith, T, IsTrue}
+use Rattle.std.specs.Option.{option_map, option_and_then}
 use Rattle.std.specs.List.{find}
 use Rattle.std.specs.Ordering.{eq_by_cmp}
 use Rattle.std.specs.Cmp.{unsigned_ties, eq_by_cmp_equiv}
@@ -11,15 +11,19 @@ use Rattle.mj_base.specs.declared.record.InodeRecord.{InodeRecord}
 use Rattle.mj_base.specs.InOrder.{same_bytes}
 use Rattle.mj_maps.specs.Orders.{nat_cmp, place_cmp, pair_cmp}
 use Rattle.mj_maps.specs.Map.{get, len, from_entries, count, passing}
-use Rattle.mj_maps.proofs.MapLaws.{Exact, exact_nat, exact_place, exact_pair, get-from_entries, count-from_entries, len-from_entries}
+use Rattle.mj_maps.proofs.MapLaws.{Exact, exact_nat, exact_place, exact_pair, get-from_entries, count-from_entries, len-from_entries, entries-from_entries}
 use Rattle.mj_maps.proofs.Kept.{place_ties, pair_ties}
 use Rattle.mj_tree.specs.declared.plain.PlainLink.{PlainLink}
 use Rattle.mj_tree.specs.declared.plain.PlainOpen.{PlainOpen}
-use Rattle.mj_tree.specs.declared.plain.PlainSession.{PlainSession}
-use Rattle.mj_tree.specs.declared.plain.KeptReply.{KeptReply}
+use Rattle.mj_tree.specs.declared.session.PlainSession.{PlainSession}
+use Rattle.mj_tree.specs.declared.session.KeptReply.{KeptReply}
 use Rattle.mj_tree.specs.declared.plain.PlainTree.{PlainTree}
 use Rattle.mj_tree.specs.State.{Session, attributes_of, link_count, entry_count, open_count, opens_of}
-use Rattle.mj_tree.specs.Lists.{record_entries, link_entries, open_entries, session_entries, kept_entries, session_of}
+use Rattle.mj_tree.specs.declared.request.ClientRequest.{ClientRequest}
+use Rattle.mj_tree.specs.Row.{names_in}
+use Rattle.mj_tree.specs.Answer.{still_kept, kept_reply}
+use Rattle.mj_tree.specs.Lists.{record_entries, link_entries, open_entries, session_entries, session_of}
+use Rattle.mj_tree.specs.Replies.{kept_entries}
 use Rattle.mj_tree.specs.Meaning.{state_of}
 
 one_or_none : (b : Bool) (n : ℕ) → cond b 1 0 + n ≡ cond b (1 + n) n
@@ -99,3 +103,29 @@ module _ (t : PlainTree) where
 
   pub sessions_len : length t.sessions ≡ len (state_of t).sessions
   sessions_len = sym (len-from_entries exact_nat (session_entries t.sessions) (passes _ t.sessions_rise) ∙ length-map _ t.sessions)
+
+-- how many replies of a session are kept from a number on
+pub still_kept_is : (r : ClientRequest) (c : PlainSession) → count_by (λ (k : KeptReply). nat_le r.oldest k.tid) c.kept ≡ still_kept r (session_of c)
+still_kept_is r c = sym (count-from_entries exact_nat (λ (e : ℕ × ℕ). nat_le r.oldest e.0) (kept_entries c.kept) (passes _ c.replies_rise)
+    ∙ passing_counted (λ (k : KeptReply). (k.tid, k.ino)) (λ (e : ℕ × ℕ). nat_le r.oldest e.0) c.kept)
+
+pub kept_by : (t : PlainTree) (client tid : ℕ) (c : PlainSession) → Some (session_of c) ≡ get (state_of t).sessions client
+    → option_map (λ (k : KeptReply). k.ino) (find (λ (k : KeptReply). k.tid == tid) c.kept) ≡ kept_reply (state_of t) client tid
+kept_by t client tid c e = reply_found c.kept tid ∙ ap (option_and_then (λ (c : Session). get c.kept tid)) e
+
+filter-map : {A B : Type 0} (f : A → B) (p : B → Bool) (xs : List A) → filter p (map f xs) ≡ map f (filter (λ x. p (f x)) xs)
+filter-map f p [] = refl
+filter-map f p (x ∷ xs) = elim (p (f x)) as (λ b. cond b (f x ∷ filter p (map f xs)) (filter p (map f xs)) ≡ map f (cond b (x ∷ filter (λ x. p (f x)) xs) (filter (λ x. p (f x)) xs))) [ true ↦ ap (λ ys. f x ∷ ys) (filter-map f p xs) | false ↦ filter-map f p xs ]
+
+map-map : {A B C : Type 0} (f : A → B) (g : B → C) (xs : List A) → map g (map f xs) ≡ map (λ x. g (f x)) xs
+map-map f g [] = refl
+map-map f g (x ∷ xs) = ap (λ ys. g (f x) ∷ ys) (map-map f g xs)
+
+pub names_are : (t : PlainTree) (dir : ℕ) → map (λ (l : PlainLink). l.name) (filter (λ (l : PlainLink). l.parent == dir) t.links) ≡ names_in (state_of t) dir
+names_are t dir =
+    let name = λ (e : (ℕ × List ℕ) × ℕ). e.0.1 in
+    let here = λ (e : (ℕ × List ℕ) × ℕ). e.0.0 == dir in
+    let entry = λ (l : PlainLink). let e : (ℕ × List ℕ) × ℕ = ((l.parent, l.name), l.ino) in e in
+    sym (ap (λ es. map name (filter here es)) (entries-from_entries exact_place (link_entries t.links) (passes _ t.links_rise))
+    ∙ ap (map name) (filter-map entry here t.links)
+    ∙ map-map entry name (filter (λ (l : PlainLink). l.parent == dir) t.links))
