@@ -113,7 +113,7 @@ pub kept_by : (t : PlainTree) (client tid : ℕ) (c : PlainSession) → Some (se
     → option_map (λ (k : KeptReply). k.ino) (find (λ (k : KeptReply). k.tid == tid) c.kept) ≡ kept_reply (state_of t) client tid
 kept_by t client tid c e = reply_found c.kept tid ∙ ap (option_and_then (λ (c : Session). get c.kept tid)) e
 
-filter-map : {A B : Type 0} (f : A → B) (p : B → Bool) (xs : List A) → filter p (map f xs) ≡ map f (filter (λ x. p (f x)) xs)
+pub filter-map : {A B : Type 0} (f : A → B) (p : B → Bool) (xs : List A) → filter p (map f xs) ≡ map f (filter (λ x. p (f x)) xs)
 filter-map f p [] = refl
 filter-map f p (x ∷ xs) = elim (p (f x)) as (λ b. cond b (f x ∷ filter p (map f xs)) (filter p (map f xs)) ≡ map f (cond b (x ∷ filter (λ x. p (f x)) xs) (filter (λ x. p (f x)) xs))) [ true ↦ ap (λ ys. f x ∷ ys) (filter-map f p xs) | false ↦ filter-map f p xs ]
 
