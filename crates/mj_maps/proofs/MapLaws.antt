@@ -8,6 +8,7 @@
 --     len-insert_new, len-insert_over, len-remove, len_empty      lengths
 --     get-collect, count-collect, collect-insert, collect-remove, get-retain      what a function gives at each entry
 --     entries-insert, entries-from_entries, from_entries-entries, get-entries      the list of entries
+--     from_entries-put, from_entries-without, from_entries-where      the map of a changed list of entries
 use Rattle.std.proofs.Common.{◌≡◌, ℕ, ◌+◌, ◌<◌, Bool, true, false, cond, not, T, List, [], ◌∷◌, length, Option, Some, None, refl, sym, ap, subst, ◌∙◌, ◌⊎◌, inl, inr, arith}
 use Rattle.std.specs.declared.cmp.Ordering.{Ordering}
 use Rattle.std.specs.declared.cmp.Ordering.TheVariants.{Less, Equal, Greater}
@@ -347,6 +348,18 @@ module _ {K : Type 0} {R : K → K → Ordering} (o : Exact R) where
 
     pub retain_fails : (m : Map R X) (k : K) (v : X) → get m k ≡ Some v → p k v ≡ false → get (retain p m) k ≡ None
     retain_fails m k v h t = get-collect_some (passed p) m k v h ∙ ap (λ b. cond b (Some v) None) t
+
+kept_if : {X : Type 0} (b : Bool) (o : Option X) → option_and_then (λ x. cond b (Some x) None) o ≡ cond b o None
+kept_if true None = refl
+kept_if true (Some x) = refl
+kept_if false None = refl
+kept_if false (Some x) = refl
+
+-- the entries of a list whose keys pass make what the map retains
+pub from_entries-where : {K X : Type 0} {R : K → K → Ordering} (o : Exact R) (p : K → Bool) (es : List (K × X)) → from_entries {R = R} (where_key R p es) ≡ retain (λ k _. p k) (from_entries es)
+from_entries-where {R = R} o p es = same_map o _ _ (λ q. get-from_entries o (where_key R p es) q
+    ∙ find-where_key R p q (λ x t. ap p (sym (o.same q x t))) es
+    ∙ sym (get-retain o (λ k _. p k) (from_entries es) q ∙ kept_if (p q) (get (from_entries es) q) ∙ ap (λ z. cond (p q) z None) (get-from_entries o es q)))
 
 pub exact_nat : Exact nat_cmp
 exact_nat = record { total = nat_cmp_total; same = nat_cmp-IsAntisymmetric }

@@ -24,7 +24,7 @@ placed_over cmp a xs i x h is tie so_far =
     so_far ∙ ap (λ ys. take i xs ++ placed cmp a ys) here ∙ ap (λ r. take i xs ++ match_ordering r (a ∷ x ∷ drop (suc i) xs) (a ∷ drop (suc i) xs) (x ∷ placed cmp a (drop (suc i) xs))) (sym tie)
     ∙ sym (set_parts xs i a h)
 
-passed : (b : Bool) → T b → b ≡ true
+pub passed : (b : Bool) → T b → b ≡ true
 passed true h = refl
 passed false h = absurd h
 
