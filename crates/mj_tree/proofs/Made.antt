@@ -32,10 +32,10 @@ module _ (s : PlainState) (q r : ℕ × List ℕ) (i j : ℕ) (h : get s.links q
       let same = passed (j == j) (eqb_refl j) in
       let here : count to_j (remove s.links r) + 1 ≡ count to_j s.links = ap (λ b. count to_j (remove s.links r) + cond b 1 0) (sym same) ∙ count-remove exact_place to_j s.links r j k in
       let over : count to_j (insert s.links r i) + 1 ≡ count to_j s.links + 0 =
-          ap (λ b. count to_j (insert s.links r i) + cond b 1 0) (sym same) ∙ count-insert_over exact_place to_j s.links r j i k ∙ ap (λ b. count to_j s.links + cond b 1 0) ne in
+      ap (λ b. count to_j (insert s.links r i) + cond b 1 0) (sym same) ∙ count-insert_over exact_place to_j s.links r j i k ∙ ap (λ b. count to_j s.links + cond b 1 0) ne in
       let at_q = insert_other exact_place s.links r i q (apart_from q r (λ e. not_same (sym e))) ∙ h in
       let gone : count to_j (remove (insert s.links r i) q) + 0 ≡ count to_j (insert s.links r i) =
-          ap (λ b. count to_j (remove (insert s.links r i) q) + cond b 1 0) (sym ne) ∙ count-remove exact_place to_j (insert s.links r i) q i at_q in
+      ap (λ b. count to_j (remove (insert s.links r i) q) + cond b 1 0) (sym ne) ∙ count-remove exact_place to_j (insert s.links r i) q i at_q in
       omega (arith, here, over, gone)
 
   links_are : remove (insert s.links r i) q ≡ insert (remove (remove s.links r) q) r i
@@ -47,8 +47,8 @@ module _ (s : PlainState) (q r : ℕ × List ℕ) (i j : ℕ) (h : get s.links q
   replaced_is =
       ap (λ n. if nat_lt 0 (n + open_count s j) then record s { links = remove (insert s.links r i) q } else record s { links = remove (insert s.links r i) q; records = remove s.records j }) links_of_j
       ∙ elim (is_kept (record s { links = remove s.links r }) j) as (λ b.
-          (if b then record s { links = remove (insert s.links r i) q } else record s { links = remove (insert s.links r i) q; records = remove s.records j })
-          ≡ with_moved (if b then record s { links = remove s.links r } else record s { links = remove s.links r; records = remove s.records j }) q r i) [
+      (if b then record s { links = remove (insert s.links r i) q } else record s { links = remove (insert s.links r i) q; records = remove s.records j })
+      ≡ with_moved (if b then record s { links = remove s.links r } else record s { links = remove s.links r; records = remove s.records j }) q r i) [
         | true ↦ ap (λ m. record s { links = m }) links_are
         | false ↦ ap (λ m. record s { links = m; records = remove s.records j }) links_are
       ]

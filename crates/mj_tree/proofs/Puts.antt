@@ -1,19 +1,24 @@
 -- The lists of a plain tree, when an item comes in or goes.
-use Rattle.std.proofs.Common.{Ordering, ◌≡◌, ℕ, Bool, true, not, ◌==◌, ◌&&◌, List, filter, Result, OnOk, OnErr, refl}
+use Rattle.std.proofs.Common.{Ordering, ◌≡◌, ℕ, Bool, true, not, ◌==◌, ◌&&◌, List, filter, Result, OnOk, OnErr, is_some, nat_le, refl, sym, ap, ◌∙◌}
 use Rattle.std.specs.declared.alloc.AllocError.{AllocError}
 use Rattle.std.specs.Cmp.{unsigned_ties}
+use Rattle.std.specs.FinMap.Entries.{where_key, is_sorted, is_sorted-where_key}
 use Rattle.mj_base.specs.InOrder.{placed, same_bytes}
 use Rattle.mj_base.specs.declared.record.InodeRecord.{InodeRecord}
 use Rattle.mj_maps.specs.Orders.{nat_cmp, place_cmp, pair_cmp}
-use Rattle.mj_maps.specs.Map.{insert, remove, from_entries}
-use Rattle.mj_maps.proofs.MapLaws.{exact_nat, exact_place, exact_pair}
+use Rattle.mj_maps.specs.Map.{get, insert, remove, retain, from_entries}
+use Rattle.mj_maps.proofs.MapLaws.{exact_nat, exact_place, exact_pair, from_entries-where}
 use Rattle.mj_maps.proofs.Kept.{place_ties, pair_ties}
 use Rattle.mj_tree.specs.declared.plain.PlainLink.{PlainLink}
 use Rattle.mj_tree.specs.declared.plain.PlainOpen.{PlainOpen}
 use Rattle.mj_tree.specs.declared.session.PlainSession.{PlainSession}
+use Rattle.mj_tree.specs.declared.session.KeptReply.{KeptReply}
+use Rattle.mj_tree.specs.Placing.{replaced}
+use Rattle.mj_tree.specs.Replies.{kept_entries, do_replies_rise}
 use Rattle.mj_tree.specs.State.{attributes_of}
 use Rattle.mj_tree.specs.Lists.{record_entries, link_entries, open_entries, session_entries, session_of, do_records_rise, do_links_rise, do_opens_rise, do_sessions_rise}
-use Rattle.mj_tree.proofs.Entries.{rises_after, map_after, rises_left, map_left}
+use Rattle.mj_tree.proofs.Entries.{rises_after, map_after, rises_left, map_left, rises_over, map_over, on_ok, passed}
+use Rattle.mj_tree.proofs.Listed.{passes, filter-map}
 
 module _ (r : Result (Unit {0}) AllocError) where
   module _ (x : InodeRecord) (old new : List InodeRecord) (ok : OnOk r (new ≡ placed (λ a b. nat_cmp a.ino b.ino) x old)) where
@@ -71,3 +76,27 @@ module _ (client : ℕ) (old new : List PlainSession) (e : new ≡ filter (λ (c
 
   pub sessions_left : from_entries {R = nat_cmp} (session_entries new) ≡ remove (from_entries (session_entries old)) client
   sessions_left = map_left exact_nat (λ (c : PlainSession). c.client) session_of (λ c. c.client == client) client (λ c. unsigned_ties c.client client) old new e
+
+-- a session over the client's own
+module _ (x : PlainSession) (old new : List PlainSession) (e : new ≡ replaced (λ a b. nat_cmp a.client b.client) x old) where
+  pub sessions_rise_over : do_sessions_rise old ≡ true → do_sessions_rise new ≡ true
+  sessions_rise_over h = rises_over exact_nat (λ (c : PlainSession). c.client) session_of (λ a b. nat_cmp a.client b.client) (λ _ _. refl) x old new e h
+
+  pub sessions_over : is_some (get (from_entries {R = nat_cmp} (session_entries old)) x.client) ≡ true → from_entries {R = nat_cmp} (session_entries new) ≡ insert (from_entries (session_entries old)) x.client (session_of x)
+  sessions_over h = map_over exact_nat (λ (c : PlainSession). c.client) session_of (λ a b. nat_cmp a.client b.client) (λ _ _. refl) x old new e h
+
+-- the replies that are kept from a number on, and one more
+abbrev reply_entry : KeptReply → ℕ × ℕ
+reply_entry k = (k.tid, k.ino)
+
+from_number : (oldest : ℕ) (ks : List KeptReply) → kept_entries (filter (λ (k : KeptReply). nat_le oldest k.tid) ks) ≡ where_key nat_cmp (nat_le oldest) (kept_entries ks)
+from_number oldest ks = sym (filter-map reply_entry (λ e. nat_le oldest e.0) ks)
+
+module _ (r : Result (Unit {0}) AllocError) (x : KeptReply) (oldest : ℕ) (all old new : List KeptReply) (e : old ≡ filter (λ (k : KeptReply). nat_le oldest k.tid) all) where
+  pub replies_rise_after : OnOk r (new ≡ placed (λ a b. nat_cmp a.tid b.tid) x old) → OnErr r (new ≡ old) → do_replies_rise all ≡ true → do_replies_rise new ≡ true
+  replies_rise_after ok err h = rises_after exact_nat (λ (k : KeptReply). k.tid) (λ (k : KeptReply). k.ino) (λ a b. nat_cmp a.tid b.tid) (λ _ _. refl) r x old new ok err
+      (ap (λ ks. is_sorted nat_cmp (kept_entries ks)) e ∙ ap (is_sorted nat_cmp) (from_number oldest all) ∙ passed _ (is_sorted-where_key nat_cmp (nat_le oldest) (kept_entries all) (passes _ h)))
+
+  pub replies_after : OnOk r (new ≡ placed (λ a b. nat_cmp a.tid b.tid) x old) → OnOk r (from_entries {R = nat_cmp} (kept_entries new) ≡ insert (retain (λ tid _. nat_le oldest tid) (from_entries (kept_entries all))) x.tid x.ino)
+  replies_after ok = on_ok r (λ m. m ∙ ap (λ m. insert m x.tid x.ino) (ap (λ ks. from_entries (kept_entries ks)) e ∙ ap from_entries (from_number oldest all) ∙ from_entries-where exact_nat (nat_le oldest) (kept_entries all)))
+      (map_after exact_nat (λ (k : KeptReply). k.tid) (λ (k : KeptReply). k.ino) (λ a b. nat_cmp a.tid b.tid) (λ _ _. refl) r x old new ok)

@@ -52,8 +52,11 @@ changed s (Release client i) = without_open s client i
 
 -- sessions
 
+abbrev pub new_session : ClientRequest → Session
+new_session r = record { oldest = r.oldest; kept = insert empty r.tid 0 }
+
 abbrev pub with_session : PlainState → ClientRequest → PlainState
-with_session s r = record s { sessions = insert s.sessions r.client (record { oldest = r.oldest; kept = insert empty r.tid 0 }) }
+with_session s r = record s { sessions = insert s.sessions r.client (new_session r) }
 
 abbrev pub without_session : PlainState → ℕ → PlainState
 without_session s client = record s { sessions = remove s.sessions client }

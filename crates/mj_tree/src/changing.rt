@@ -19,7 +19,12 @@ impl PlainTree {
         keyed::put(alloc, &mut self.records, inode)
     }
 
-    pub(crate) fn put_link(&mut self, alloc: Global, place: (Ino, Name), ino: Ino) -> Result<(), AllocError>
+    pub(crate) fn put_link(
+        &mut self,
+        alloc: Global,
+        place: (Ino, Name),
+        ino: Ino,
+    ) -> Result<(), AllocError>
         ensures ok { OnOk result (state_of self.new ≡ record (state_of self.old) { links = insert (state_of self.old).links place ino }) }
         ensures err { OnErr result (state_of self.new ≡ state_of self.old) }
     {
@@ -27,14 +32,23 @@ impl PlainTree {
         keyed::put(alloc, &mut self.links, PlainLink { parent, name, ino })
     }
 
-    pub(crate) fn put_open(&mut self, alloc: Global, client: ClientId, ino: Ino) -> Result<(), AllocError>
+    pub(crate) fn put_open(
+        &mut self,
+        alloc: Global,
+        client: ClientId,
+        ino: Ino,
+    ) -> Result<(), AllocError>
         ensures ok { OnOk result (state_of self.new ≡ record (state_of self.old) { opens = insert (state_of self.old).opens (client, ino) tt }) }
         ensures err { OnErr result (state_of self.new ≡ state_of self.old) }
     {
         keyed::put(alloc, &mut self.opens, PlainOpen { client, ino })
     }
 
-    pub(crate) fn put_session(&mut self, alloc: Global, session: PlainSession) -> Result<(), AllocError>
+    pub(crate) fn put_session(
+        &mut self,
+        alloc: Global,
+        session: PlainSession,
+    ) -> Result<(), AllocError>
         ensures ok { OnOk result (state_of self.new ≡ record (state_of self.old) { sessions = insert (state_of self.old).sessions session.client (session_of session) }) }
         ensures err { OnErr result (state_of self.new ≡ state_of self.old) }
     {

@@ -1,8 +1,8 @@
 //! Lists that ascend by keys of their items.
-ghost use Rattle.std.specs.Prelude.{◌≡◌, ◌≤◌, ◌<◌, OnOk, OnErr, MatchResult, length, not, filter, ◌==◌, ◌&&◌};
+ghost use Rattle.std.specs.Prelude.{◌≡◌, ◌≤◌, ◌<◌, OnOk, OnErr, MatchResult, MatchOption, length, not, filter, ◌==◌, ◌&&◌};
 ghost use Rattle.std.specs.List.{insert};
 ghost use Rattle.mj_maps.specs.Orders.{nat_cmp, place_cmp, pair_cmp};
-ghost use Rattle.mj_tree.specs.Placing.{IsOver, IsBefore, set};
+ghost use Rattle.mj_tree.specs.Placing.{IsOver, IsBefore, IsTie, replaced, set};
 ghost use Rattle.std.specs.declared.cmp.Ordering.{Ordering};
 ghost use Rattle.mj_base.specs.InOrder.{placed, same_bytes};
 
@@ -51,6 +51,27 @@ pub fn put<T: Keyed + Drop>(alloc: Global, items: &mut Items<T>, item: T) -> Res
     }
 }
 
+/// Puts the item over the first one that has its key, if there is one.
+pub fn replace<T: Keyed + Drop>(alloc: Global, items: &mut Items<T>, item: T)
+    ensures { items.new ≡ replaced T.order item items.old }
+{
+    if let Some(at) = tie_of(items.as_slice(), &item) {
+        set_at(alloc, items, at, item);
+    }
+}
+
+// Where the first item with this key stands.
+fn tie_of<T: Keyed>(items: &[T], item: &T) -> Option<usize>
+    ensures { MatchOption result (replaced T.order item.now items.now ≡ items.now) (IsTie T.order item.now items.now) }
+{
+    for i in 0..items.len() {
+        if let Ordering::Equal = item.compare(&items[i]) {
+            return Some(i);
+        }
+    }
+    None
+}
+
 // Takes the list out, with an empty one in its place.
 fn vec_of<T: Drop>(alloc: Global, items: &mut Items<T>) -> Vec<T>
     ensures { result.items ≡ items.old }
@@ -67,7 +88,12 @@ fn set_at<T: Drop>(alloc: Global, items: &mut Items<T>, at: usize, item: T)
     *items = Items::from_vec(all);
 }
 
-fn insert_at<T: Drop>(alloc: Global, items: &mut Items<T>, at: usize, item: T) -> Result<(), AllocError>
+fn insert_at<T: Drop>(
+    alloc: Global,
+    items: &mut Items<T>,
+    at: usize,
+    item: T,
+) -> Result<(), AllocError>
     requires { at ≤ length items.old }
     ensures ok { OnOk result (items.new ≡ insert items.old at item) }
     ensures err { OnErr result (items.new ≡ items.old) }
@@ -91,7 +117,9 @@ impl Keyed for PlainLink {
     ghost order = { λ a b. place_cmp (a.parent, a.name) (b.parent, b.name) };
 
     fn compare(&self, other: &Self) -> Ordering {
-        self.parent.cmp(&other.parent).then(self.name.cmp(&other.name))
+        self.parent
+            .cmp(&other.parent)
+            .then(self.name.cmp(&other.name))
     }
 }
 
@@ -99,7 +127,9 @@ impl Keyed for PlainOpen {
     ghost order = { λ a b. pair_cmp (a.client, a.ino) (b.client, b.ino) };
 
     fn compare(&self, other: &Self) -> Ordering {
-        self.client.cmp(&other.client).then(self.ino.cmp(&other.ino))
+        self.client
+            .cmp(&other.client)
+            .then(self.ino.cmp(&other.ino))
     }
 }
 

@@ -13,7 +13,12 @@ use mj_base::{ClientId, Ino, InodeRecord, Name};
 use std::alloc::{AllocError, Global};
 
 // The record of the inode, once these attributes are set in it.
-fn with_settings(alloc: Global, ino: Ino, old: &InodeRecord, settings: Settings) -> Result<InodeRecord, AllocError>
+fn with_settings(
+    alloc: Global,
+    ino: Ino,
+    old: &InodeRecord,
+    settings: Settings,
+) -> Result<InodeRecord, AllocError>
     ensures ino { IfOk result (λ new. new.ino ≡ ino) }
     ensures attributes { IfOk result (λ new. attributes_of new ≡ set_in settings (attributes_of old.now)) }
 {
@@ -41,7 +46,12 @@ impl PlainTree {
     }
 
     // The next inode begins, with a link.
-    fn begin(&mut self, alloc: Global, place: (Ino, Name), attributes: Attributes) -> Result<(), AllocError>
+    fn begin(
+        &mut self,
+        alloc: Global,
+        place: (Ino, Name),
+        attributes: Attributes,
+    ) -> Result<(), AllocError>
         requires free { get (state_of self.old).links place ≡ None }
         requires more { ((state_of self.old).next == 2 ^ 64 - 1) ≡ false }
         ensures ok { OnOk result (state_of self.new ≡ with_new (state_of self.old) place attributes) }
@@ -70,7 +80,13 @@ impl PlainTree {
     }
 
     // A link moves to a free place.
-    fn move_link(&mut self, alloc: Global, from: &(Ino, Name), to: (Ino, Name), ino: Ino) -> Result<(), AllocError>
+    fn move_link(
+        &mut self,
+        alloc: Global,
+        from: &(Ino, Name),
+        to: (Ino, Name),
+        ino: Ino,
+    ) -> Result<(), AllocError>
         requires from { get (state_of self.old).links from.now ≡ Some ino }
         requires to { get (state_of self.old).links to ≡ None }
         ensures ok { OnOk result (state_of self.new ≡ with_moved (state_of self.old) from.now to ino) }
