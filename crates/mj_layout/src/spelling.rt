@@ -3,10 +3,11 @@
 ghost use Rattle.std.specs.Prelude.{◌≡◌, ◌≤◌, ◌<◌, ℕ, List, length, slice_index, Ok, IfOk, IfErr};
 ghost use Rattle.std.specs.Int.{w32, w64};
 ghost use Rattle.mj_layout.specs.declared.Header.{Header};
-ghost use Rattle.mj_layout.specs.Gives.{Gives};
+ghost use Rattle.mj_layout.specs.Gives.{Gives, Reads};
 ghost use Rattle.mj_layout.specs.Header.{header_bytes, header_of, fields_at, sound_layout_at, format_at, phase_at, ends, exactly, uncut, is_ordered, phase_code, phase_of, IsHeader};
 
 use crate::{Header, HeaderRefusal, Layout, Phase};
+use mj_base::{Cursor, put_u8, put_u32, put_u64};
 use std::alloc::{AllocError, Global};
 
 /// How each header begins: the length of Ceph's magic text, and the text.
@@ -33,15 +34,15 @@ impl Header {
     {
         let mut out = Vec::with_capacity(alloc, Header::SIZE)?;
         out.extend_from_slice(&MAGIC)?;
-        out.extend_from_slice(&self.trimmed.to_le_bytes())?;
-        out.extend_from_slice(&self.expire.to_le_bytes())?;
-        out.extend_from_slice(&self.write.to_le_bytes())?;
-        out.extend_from_slice(&self.layout.su().to_le_bytes())?;
-        out.extend_from_slice(&self.layout.sc().to_le_bytes())?;
-        out.extend_from_slice(&self.layout.os().to_le_bytes())?;
-        out.push(self.format)?;
-        out.push(self.phase.code())?;
-        out.extend_from_slice(&self.epoch.to_le_bytes())?;
+        put_u64(self.trimmed, &mut out)?;
+        put_u64(self.expire, &mut out)?;
+        put_u64(self.write, &mut out)?;
+        put_u32(self.layout.su(), &mut out)?;
+        put_u32(self.layout.sc(), &mut out)?;
+        put_u32(self.layout.os(), &mut out)?;
+        put_u8(self.format, &mut out)?;
+        put_u8(self.phase.code(), &mut out)?;
+        put_u64(self.epoch, &mut out)?;
         Ok(out)
     }
 
@@ -77,7 +78,7 @@ impl Phase {
     }
 }
 
-// The readers below answer the value and the bytes behind it, or how many bytes there are from the fault on.
+// The readers below answer the value, or how many bytes there are from the fault on.
 
 #[tactic(auto, unfolding(crate::specs::Header::fields_at))]
 fn read_fields(bytes: &[u8]) -> Result<Header, usize>
@@ -86,17 +87,15 @@ fn read_fields(bytes: &[u8]) -> Result<Header, usize>
 {
     let magic = MAGIC;
     let rest = exactly(&magic, bytes)?;
-    let (trimmed, rest) = uncut_u64(rest)?;
-    let (expire, rest) = uncut_u64(rest)?;
-    let (write, rest) = uncut_u64(rest)?;
-    let (layout, rest) = match read_layout(rest) {
-        Ok(found) => found,
-        Err(left) => return Err(left),
-    };
-    let (format, rest) = read_format(rest)?;
-    let (phase, rest) = read_phase(rest)?;
-    let (epoch, rest) = uncut_u64(rest)?;
-    at_end(rest)?;
+    let mut cursor = Cursor::new(rest);
+    let trimmed = uncut_u64(&mut cursor)?;
+    let expire = uncut_u64(&mut cursor)?;
+    let write = uncut_u64(&mut cursor)?;
+    let layout = read_layout(&mut cursor)?;
+    let format = read_format(&mut cursor)?;
+    let phase = read_phase(&mut cursor)?;
+    let epoch = uncut_u64(&mut cursor)?;
+    at_end(cursor.rest())?;
     Ok(Header {
         trimmed,
         expire,
@@ -134,76 +133,73 @@ fn exactly<'a>(text: &[u8], bytes: &'a [u8]) -> Result<&'a [u8], usize>
     Ok(&bytes[text.len()..])
 }
 
+/// A number that is cut is wrong at the end of the bytes.
 #[tactic(auto, unfolding(crate::specs::Header::uncut))]
-fn uncut_u32(bytes: &[u8]) -> Result<(u32, &[u8]), usize>
-    ensures is { Gives (λ x. (x.0, x.1.now)) result (uncut w32 bytes.now) }
-    ensures shorter { IfOk result (λ x. length x.1.now ≤ length bytes.now) }
-    ensures within { IfErr result (λ left. left ≤ length bytes.now) }
+fn uncut_u32(cursor: &mut Cursor) -> Result<u32, usize>
+    ensures is { Reads (λ x. x) result cursor.new (uncut w32 cursor.old) }
+    ensures shorter { length cursor.new ≤ length cursor.old }
+    ensures within { IfErr result (λ left. left ≤ length cursor.old) }
 {
-    if bytes.len() < 4 {
-        return Err(0);
+    match cursor.take_u32() {
+        Some(number) => Ok(number),
+        None => Err(0),
     }
-    let (front, rest) = bytes.split_at(4);
-    Ok((
-        u32::from_le_bytes([front[0], front[1], front[2], front[3]]),
-        rest,
-    ))
 }
 
+/// A number that is cut is wrong at the end of the bytes.
 #[tactic(auto, unfolding(crate::specs::Header::uncut))]
-fn uncut_u64(bytes: &[u8]) -> Result<(u64, &[u8]), usize>
-    ensures is { Gives (λ x. (x.0, x.1.now)) result (uncut w64 bytes.now) }
-    ensures shorter { IfOk result (λ x. length x.1.now ≤ length bytes.now) }
-    ensures within { IfErr result (λ left. left ≤ length bytes.now) }
+fn uncut_u64(cursor: &mut Cursor) -> Result<u64, usize>
+    ensures is { Reads (λ x. x) result cursor.new (uncut w64 cursor.old) }
+    ensures shorter { length cursor.new ≤ length cursor.old }
+    ensures within { IfErr result (λ left. left ≤ length cursor.old) }
 {
-    if bytes.len() < 8 {
-        return Err(0);
+    match cursor.take_u64() {
+        Some(number) => Ok(number),
+        None => Err(0),
     }
-    let (front, rest) = bytes.split_at(8);
-    let number = u64::from_le_bytes([
-        front[0], front[1], front[2], front[3], front[4], front[5], front[6], front[7],
-    ]);
-    Ok((number, rest))
 }
 
 /// A layout that is refused is wrong at its first byte.
 #[tactic(auto, unfolding(crate::specs::Header::layout_at))]
-fn read_layout(bytes: &[u8]) -> Result<(Layout, &[u8]), usize>
-    ensures is { Gives (λ x. (x.0, x.1.now)) result (sound_layout_at bytes.now) }
-    ensures shorter { IfOk result (λ x. length x.1.now ≤ length bytes.now) }
-    ensures within { IfErr result (λ left. left ≤ length bytes.now) }
+fn read_layout(cursor: &mut Cursor) -> Result<Layout, usize>
+    ensures is { Reads (λ x. x) result cursor.new (sound_layout_at cursor.old) }
+    ensures shorter { length cursor.new ≤ length cursor.old }
+    ensures within { IfErr result (λ left. left ≤ length cursor.old) }
 {
-    let (su, rest) = uncut_u32(bytes)?;
-    let (sc, rest) = uncut_u32(rest)?;
-    let (os, rest) = uncut_u32(rest)?;
+    let left = cursor.left();
+    let su = uncut_u32(cursor)?;
+    let sc = uncut_u32(cursor)?;
+    let os = uncut_u32(cursor)?;
     match Layout::new(su, sc, os) {
-        Ok(layout) => Ok((layout, rest)),
-        Err(_) => Err(bytes.len()),
+        Ok(layout) => Ok(layout),
+        Err(_) => Err(left),
     }
 }
 
-fn read_format(bytes: &[u8]) -> Result<(u8, &[u8]), usize>
-    ensures is { Gives (λ x. (x.0, x.1.now)) result (format_at bytes.now) }
-    ensures shorter { IfOk result (λ x. length x.1.now ≤ length bytes.now) }
-    ensures within { IfErr result (λ left. left ≤ length bytes.now) }
+fn read_format(cursor: &mut Cursor) -> Result<u8, usize>
+    ensures is { Reads (λ x. x) result cursor.new (format_at cursor.old) }
+    ensures shorter { length cursor.new ≤ length cursor.old }
+    ensures within { IfErr result (λ left. left ≤ length cursor.old) }
 {
-    match bytes {
-        [] => Err(0),
-        [format, rest @ ..] if *format <= 1 => Ok((*format, rest)),
-        _ => Err(bytes.len()),
+    let left = cursor.left();
+    match cursor.take_u8() {
+        None => Err(0),
+        Some(format) if format <= 1 => Ok(format),
+        Some(_) => Err(left),
     }
 }
 
-fn read_phase(bytes: &[u8]) -> Result<(Phase, &[u8]), usize>
-    ensures is { Gives (λ x. (x.0, x.1.now)) result (phase_at bytes.now) }
-    ensures shorter { IfOk result (λ x. length x.1.now ≤ length bytes.now) }
-    ensures within { IfErr result (λ left. left ≤ length bytes.now) }
+fn read_phase(cursor: &mut Cursor) -> Result<Phase, usize>
+    ensures is { Reads (λ x. x) result cursor.new (phase_at cursor.old) }
+    ensures shorter { length cursor.new ≤ length cursor.old }
+    ensures within { IfErr result (λ left. left ≤ length cursor.old) }
 {
-    match bytes {
-        [] => Err(0),
-        [code, rest @ ..] => match Phase::of_code(*code) {
-            Some(phase) => Ok((phase, rest)),
-            None => Err(bytes.len()),
+    let left = cursor.left();
+    match cursor.take_u8() {
+        None => Err(0),
+        Some(code) => match Phase::of_code(code) {
+            Some(phase) => Ok(phase),
+            None => Err(left),
         },
     }
 }
