@@ -7,6 +7,7 @@ mod escapes;
 mod fault_plan;
 mod files;
 mod host;
+mod law;
 mod list;
 mod memory;
 mod name;
@@ -27,6 +28,9 @@ pub use escapes::{EscapeRefusal, escape, unescape};
 pub use fault_plan::FaultPlan;
 pub use files::{FileRefusal, Files, MAX_FILE_BYTES};
 pub use host::{HostFiles, HostSink};
+pub use law::{
+    escapes_are_read_again, names_are_read, paths_are_read_again, records_are_read_again,
+};
 pub use list::Items;
 pub use memory::{MemFiles, MemSink};
 pub use name::{Name, NameRefusal};
