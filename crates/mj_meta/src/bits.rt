@@ -13,7 +13,7 @@ use mj_base::{Cursor, Fault, Ino, Kind, kind_field, record_field};
 use std::alloc::Global;
 
 /// A flag, and behind a 1 a number.
-pub fn read_optional(cursor: &mut Cursor<'_>) -> Result<Option<u64>, Fault>
+pub fn optional_field(cursor: &mut Cursor<'_>) -> Result<Option<u64>, Fault>
     ensures { Reads (λ x. x) result cursor.new (optional_at u64_at cursor.old) }
 {
     let left = cursor.left();
@@ -28,7 +28,7 @@ pub fn read_optional(cursor: &mut Cursor<'_>) -> Result<Option<u64>, Fault>
 pub fn read_head(cursor: &mut Cursor<'_>) -> Result<HeadBit, Fault>
     ensures { Reads (λ x. x) result cursor.new (head_at cursor.old) }
 {
-    match read_optional(cursor)? {
+    match optional_field(cursor)? {
         Some(version) => Ok(HeadBit::At(version)),
         None => Ok(HeadBit::Gone),
     }

@@ -1,0 +1,9 @@
+use Rattle.mj_event.specs.Writes.{remote_write}
+use Rattle.mj_meta.proofs.Pieces.{item_more, items_end}
+use Rattle.mj_event.proofs.cell_writes.push_remotes.Goals as goal
+
+pub loop-bit-preserved : goal.loop-bit-preserved
+loop-bit-preserved c = item_more (remote_write c.args.dir) _ _ _ _ _ _ c.loop-bit-test.true c.bit-item.is c.loop-bit.invariant c.in_ok-push_remote.ensures
+
+pub returns : goal.returns
+returns c = items_end (remote_write c.args.dir) _ _ _ _ c.loop-bit-test.false c.loop-bit.invariant
