@@ -2,7 +2,10 @@
 #![tactic(auto)]
 
 mod answers;
+mod log;
+mod rank;
 mod refusal;
 
 pub use answers::{Early, Fault, MountStep, Reaped, Span};
+pub use rank::Rank;
 pub use refusal::{MountRefusal, RankRefusal, Sealed};

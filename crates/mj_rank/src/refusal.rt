@@ -1,8 +1,12 @@
 //! Why a rank or a mount refuses.
 
+ghost use Rattle.std.specs.Prelude.{◌≡◌};
+ghost use Rattle.mj_rank.specs.Refusals.{IsDown};
+
 use crate::answers::Fault;
 use mj_base::Damage;
-use mj_store::StoreFault;
+use mj_store::{ReadRefusal, StoreFault, SubmitRefusal};
+use std::alloc::AllocError;
 
 /// What only this crate makes, so that no refusal is made elsewhere.
 #[derive(Debug, Drop)]
@@ -30,10 +34,67 @@ pub enum RankRefusal {
     Memory,
 }
 
+impl RankRefusal {
+    pub(crate) fn down(fault: &Fault) -> RankRefusal
+        ensures { IsDown fault.now result }
+    {
+        let Fault { op, faults } = *fault;
+        RankRefusal::Down(Fault { op, faults }, Sealed::new())
+    }
+}
+
+impl From<AllocError> for RankRefusal {
+    ghost use Rattle.std.specs.Prelude.{◌≡◌};
+    ghost use Rattle.mj_rank.specs.declared.refusal.RankRefusal.TheVariants.{Memory};
+
+    ghost from_gives = { λ _ e. e ≡ Memory };
+
+    fn from(_: AllocError) -> Self {
+        RankRefusal::Memory
+    }
+}
+
 /// Why a mount was refused.
 #[derive(Drop)]
 pub enum MountRefusal {
     Damage(Damage),
     Store(StoreFault),
     Memory,
+}
+
+impl From<AllocError> for MountRefusal {
+    ghost use Rattle.std.specs.Prelude.{◌≡◌};
+    ghost use Rattle.mj_rank.specs.declared.refusal.MountRefusal.TheVariants.{Memory};
+
+    ghost from_gives = { λ _ e. e ≡ Memory };
+
+    fn from(_: AllocError) -> Self {
+        MountRefusal::Memory
+    }
+}
+
+impl From<ReadRefusal> for MountRefusal {
+    ghost use Rattle.mj_rank.specs.Refusals.{of_read};
+
+    ghost from_gives = { λ e r. r ≡ of_read e };
+
+    fn from(e: ReadRefusal) -> Self {
+        match e {
+            ReadRefusal::Failed(fault) => MountRefusal::Store(fault),
+            ReadRefusal::Memory => MountRefusal::Memory,
+        }
+    }
+}
+
+impl From<SubmitRefusal> for MountRefusal {
+    ghost use Rattle.mj_rank.specs.Refusals.{of_submit};
+
+    ghost from_gives = { λ e r. r ≡ of_submit e };
+
+    fn from(e: SubmitRefusal) -> Self {
+        match e {
+            SubmitRefusal::Failed(fault) => MountRefusal::Store(fault),
+            SubmitRefusal::Memory(_) => MountRefusal::Memory,
+        }
+    }
 }

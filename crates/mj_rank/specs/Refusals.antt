@@ -1,0 +1,33 @@
+-- Which refusals stand for a fault of the store.
+use Rattle.std.specs.Prelude.{◌≡◌, Option, Some, None}
+use Rattle.mj_store.specs.declared.answer.ReadRefusal.{ReadRefusal}
+use Rattle.mj_store.specs.declared.answer.ReadRefusal.TheVariants as read
+use Rattle.mj_store.specs.declared.answer.SubmitRefusal.{SubmitRefusal}
+use Rattle.mj_store.specs.declared.answer.SubmitRefusal.TheVariants as submit
+use Rattle.mj_rank.specs.declared.answers.Fault.{Fault}
+use Rattle.mj_rank.specs.declared.refusal.RankRefusal.{RankRefusal}
+use Rattle.mj_rank.specs.declared.refusal.RankRefusal.TheVariants.{Down}
+use Rattle.mj_rank.specs.declared.refusal.MountRefusal.{MountRefusal}
+use Rattle.mj_rank.specs.declared.refusal.MountRefusal.TheVariants as mount
+
+-- the rank is down for this fault
+abbrev pub IsDown : Fault → RankRefusal → Type 0
+IsDown fault (Down f sealed) = f ≡ fault
+IsDown fault _ = ⊥
+
+-- A rank is down just where it keeps a fault, and says that one.
+abbrev pub IsDownWith : Option Fault → RankRefusal → Type 0
+IsDownWith kept (Down f sealed) = kept ≡ Some f
+IsDownWith kept _ = kept ≡ None
+
+abbrev pub IsStoreFault : MountRefusal → Type 0
+IsStoreFault (mount.Store f) = Unit {0}
+IsStoreFault _ = ⊥
+
+abbrev pub of_read : ReadRefusal → MountRefusal
+of_read (read.Failed fault) = mount.Store fault
+of_read read.Memory = mount.Memory
+
+abbrev pub of_submit : SubmitRefusal → MountRefusal
+of_submit (submit.Failed fault) = mount.Store fault
+of_submit (submit.Memory op) = mount.Memory
