@@ -1,5 +1,5 @@
 -- What is found and counted in a list, against the map that the list makes.
-use Rattle.std.proofs.Common.{Ordering, ◌≡◌, ℕ, ◌+◌, ◌<◌, Bool, true, false, ◌==◌, ◌&&◌, cond, List, [], ◌∷◌, map, filter, count_by, length, suc, Option, Some, None, is_some, nat_le, refl, sym, ap, ◌∙◌, arith, T, IsTrue}
+use Rattle.std.proofs.Common.{Ordering, ◌≡◌, ℕ, ◌+◌, Bool, true, false, ◌==◌, ◌&&◌, cond, List, [], ◌∷◌, map, filter, count_by, length, suc, Option, Some, None, is_some, nat_le, refl, sym, ap, ◌∙◌, arith, T}
 use Rattle.std.specs.Option.{option_map, option_and_then}
 use Rattle.std.specs.List.{find}
 use Rattle.std.specs.Ordering.{eq_by_cmp}
@@ -10,7 +10,7 @@ use Rattle.std.proofs.lemmas.List.Recursion.{is_count_by}
 use Rattle.mj_base.specs.declared.record.InodeRecord.{InodeRecord}
 use Rattle.mj_base.specs.InOrder.{same_bytes}
 use Rattle.mj_maps.specs.Orders.{nat_cmp, place_cmp, pair_cmp}
-use Rattle.mj_maps.specs.Map.{get, len, from_entries, count, passing}
+use Rattle.mj_maps.specs.Map.{get, len, from_entries, passing}
 use Rattle.mj_maps.proofs.MapLaws.{Exact, exact_nat, exact_place, exact_pair, get-from_entries, count-from_entries, len-from_entries, entries-from_entries}
 use Rattle.mj_maps.proofs.Kept.{place_ties, pair_ties}
 use Rattle.mj_tree.specs.declared.plain.PlainLink.{PlainLink}
@@ -97,6 +97,9 @@ module _ (t : PlainTree) where
 
   pub records_len : length t.records ≡ len (state_of t).records
   records_len = sym (len-from_entries exact_nat (record_entries t.records) (passes _ t.records_rise) ∙ length-map _ t.records)
+
+  pub links_len : length t.links ≡ len (state_of t).links
+  links_len = sym (len-from_entries exact_place (link_entries t.links) (passes _ t.links_rise) ∙ length-map _ t.links)
 
   pub opens_len : length t.opens ≡ len (state_of t).opens
   opens_len = sym (len-from_entries exact_pair (open_entries t.opens) (passes _ t.opens_rise) ∙ length-map _ t.opens)

@@ -1,9 +1,9 @@
 -- Changes in the order in which lists are written, against the changes themselves.
-use Rattle.std.proofs.Common.{◌≡◌, ℕ, ◌+◌, ◌==◌, Bool, true, false, cond, nat_lt, if◌then◌else◌, List, Option, Some, None, refl, sym, ap, subst, ◌∙◌, arith, inl, inr}
+use Rattle.std.proofs.Common.{◌≡◌, ℕ, ◌+◌, ◌==◌, true, false, cond, nat_lt, if◌then◌else◌, List, Some, None, sym, ap, ◌∙◌, arith, inl, inr}
 use Rattle.std.specs.Ordering.{eq_by_cmp}
 use Rattle.mj_maps.specs.Orders.{place_cmp}
 use Rattle.mj_maps.specs.Map.{get, insert, remove, count}
-use Rattle.mj_maps.proofs.MapLaws.{exact_place, cases_key, some_same, none_some, insert_other, remove_other, absent_remove-insert, insert_remove_swap, insert_removed, remove_swap, count-insert_over, count-remove}
+use Rattle.mj_maps.proofs.MapLaws.{exact_place, cases_key, some_same, none_some, insert_other, absent_remove-insert, insert_remove_swap, insert_removed, remove_swap, count-insert_over, count-remove}
 use Rattle.std.proofs.Math.Dec.{eqb_refl}
 use Rattle.std.proofs.lemmas.Bool.{true≢false}
 use Rattle.mj_tree.proofs.Entries.{passed}

@@ -1,5 +1,5 @@
 -- Walks name by name, and beginnings of paths.
-use Rattle.std.proofs.Common.{◌≡◌, ℕ, zero, suc, ◌+◌, ◌<◌, ◌≤◌, Bool, true, false, ◌&&◌, if◌then◌else◌, List, [], ◌∷◌, ◌++◌, length, drop, get_or, Result, Ok, Err, refl, sym, ap, subst, ◌∙◌, arith, add-one, drop-cons, length-drop}
+use Rattle.std.proofs.Common.{◌≡◌, ℕ, ◌+◌, ◌<◌, ◌≤◌, Bool, true, false, ◌&&◌, if◌then◌else◌, List, [], ◌∷◌, ◌++◌, length, drop, get_or, Ok, Err, refl, sym, ap, ◌∙◌, arith, add-one, drop-cons, length-drop}
 use Rattle.std.proofs.Math.Seq.{drop-length}
 use Rattle.mj_base.specs.InOrder.{same_bytes}
 use Rattle.mj_base.specs.Reading.{◌>>=◌}

@@ -1,7 +1,7 @@
 -- Each change that is decided on can be.
-use Rattle.std.proofs.Common.{◌≡◌, ℕ, ◌-◌, ◌^◌, ◌==◌, ◌||◌, ◌&&◌, not, nat_lt, Bool, true, false, List, Option, Some, None, Result, Ok, Err, is_some, nat_le, if◌then◌else◌, refl, sym, ap, subst, ◌∙◌}
+use Rattle.std.proofs.Common.{◌≡◌, ℕ, ◌==◌, ◌||◌, ◌&&◌, not, nat_lt, Bool, true, false, List, Option, Some, None, Ok, Err, is_some, nat_le, if◌then◌else◌, refl}
 use Rattle.mj_base.specs.Reading.{◌>>=◌}
-use Rattle.mj_maps.specs.Map.{get, len, Map}
+use Rattle.mj_maps.specs.Map.{get, len}
 use Rattle.mj_tree.specs.declared.change.Attributes.{Attributes}
 use Rattle.mj_tree.specs.declared.change.Settings.{Settings}
 use Rattle.mj_tree.specs.declared.change.Decision.{Decision}

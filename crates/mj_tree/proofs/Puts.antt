@@ -1,5 +1,5 @@
 -- The lists of a plain tree, when an item comes in or goes.
-use Rattle.std.proofs.Common.{Ordering, ◌≡◌, ℕ, Bool, true, not, ◌==◌, ◌&&◌, List, filter, Result, OnOk, OnErr, is_some, nat_le, refl, sym, ap, ◌∙◌}
+use Rattle.std.proofs.Common.{◌≡◌, ℕ, true, not, ◌==◌, ◌&&◌, List, filter, Result, OnOk, OnErr, is_some, nat_le, refl, sym, ap, ◌∙◌}
 use Rattle.std.specs.declared.alloc.AllocError.{AllocError}
 use Rattle.std.specs.Cmp.{unsigned_ties}
 use Rattle.std.specs.FinMap.Entries.{where_key, is_sorted, is_sorted-where_key}

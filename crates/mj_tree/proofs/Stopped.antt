@@ -1,5 +1,5 @@
 -- What stops a request is its refusal, or want of memory.
-use Rattle.std.proofs.Common.{◌≡◌, ℕ, Result, Ok, Err, IsErr, IfOk, refl, sym, ap, subst, ◌∙◌}
+use Rattle.std.proofs.Common.{◌≡◌, ℕ, Result, Ok, Err, IfOk, sym, ap, subst, ◌∙◌}
 use Rattle.std.specs.declared.alloc.AllocError.{AllocError}
 use Rattle.mj_tree.specs.declared.change.Decision.{Decision}
 use Rattle.mj_tree.specs.declared.errno.Stop.{Stop}

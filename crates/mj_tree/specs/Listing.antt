@@ -1,8 +1,8 @@
 -- A tree as text.
-use Rattle.std.specs.Prelude.{ℕ, zero, suc, ◌-◌, Bool, ◌==◌, List, [], ◌∷◌, ◌++◌, length, filter, replicate, codes, false, if◌then◌else◌}
+use Rattle.std.specs.Prelude.{ℕ, zero, suc, ◌+◌, ◌/◌, ◌%◌, Bool, ◌==◌, List, [], ◌∷◌, ◌++◌, filter, codes, if◌then◌else◌}
 use Rattle.std.specs.Option.{unwrap_or}
 use Rattle.std.specs.List.{flat_map}
-use Rattle.std.specs.Fmt.{digits, decimal}
+use Rattle.std.specs.Fmt.{decimal}
 use Rattle.mj_base.specs.Name.{escaped}
 use Rattle.mj_base.specs.declared.record.Kind.{Kind}
 use Rattle.mj_base.specs.declared.record.Kind.TheVariants.{Dir, File, Symlink}
@@ -10,11 +10,14 @@ use Rattle.mj_maps.specs.Map.{entries, len}
 use Rattle.mj_tree.specs.declared.change.Attributes.{Attributes}
 use Rattle.mj_tree.specs.State.{PlainState, Session, root, root_attributes, attributes, link_count}
 
--- words parted by one space, and a line of them
+-- words each behind a space, words parted by one, and a line of them
+abbrev pub spaced : List (List ℕ) → List ℕ
+spaced [] = []
+spaced (w ∷ ws) = 32 ∷ w ++ spaced ws
+
 abbrev pub words : List (List ℕ) → List ℕ
 words [] = []
-words (w ∷ []) = w
-words (w ∷ v ∷ ws) = w ++ 32 ∷ words (v ∷ ws)
+words (w ∷ ws) = w ++ spaced ws
 
 abbrev pub line : List (List ℕ) → List ℕ
 line ws = words ws ++ 10 ∷ []
@@ -24,9 +27,9 @@ kind_word Dir = codes "dir"
 kind_word File = codes "file"
 kind_word Symlink = codes "symlink"
 
--- four octal digits
+-- the four octal digits of a mode
 abbrev pub octal : ℕ → List ℕ
-octal mode = replicate (4 - length (digits 8 false mode)) 48 ++ digits 8 false mode
+octal mode = (48 + mode / 512 % 8) ∷ (48 + mode / 64 % 8) ∷ (48 + mode / 8 % 8) ∷ (48 + mode % 8) ∷ []
 
 abbrev pub attribute_words : Attributes → List (List ℕ)
 attribute_words a = kind_word a.kind ∷ octal a.mode ∷ decimal a.uid ∷ decimal a.gid ∷ decimal a.size ∷ decimal a.mtime ∷ []

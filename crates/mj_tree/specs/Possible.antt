@@ -1,5 +1,5 @@
 -- What a change that was decided on can take for granted.
-use Rattle.std.specs.Prelude.{◌≡◌, ◌-◌, ◌^◌, ◌==◌, ℕ, List, Bool, false, Some, None}
+use Rattle.std.specs.Prelude.{◌≡◌, ◌-◌, ◌^◌, ◌==◌, false, Some, None}
 use Rattle.mj_maps.specs.Map.{get}
 use Rattle.mj_tree.specs.declared.change.Change.{Change}
 use Rattle.mj_tree.specs.declared.change.Change.TheVariants.{Begin, Link, Unlink, Move, Replace}

@@ -15,8 +15,8 @@ use crate::tables::ROOT;
 use mj_base::{Ino, InodeRecord, Kind, Path, Target};
 use std::alloc::{AllocError, Global};
 
-// The fixed attributes of the root.
-fn root_attributes(alloc: Global) -> Attributes
+/// The fixed attributes of the root.
+pub fn root_attributes(alloc: Global) -> Attributes
     ensures { result ≡ root_attributes }
 {
     Attributes {

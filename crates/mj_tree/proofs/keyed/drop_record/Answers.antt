@@ -1,4 +1,4 @@
-use Rattle.std.proofs.Common.{rules, ap, ◌∙◌, not, filter, ◌==◌, ◌&&◌}
+use Rattle.std.proofs.Common.{rules, ap, ◌∙◌, not, filter, ◌==◌}
 use borrow.Author.Tests.{tests}
 use Rattle.std.proofs.lemmas.Fn.{filter_same}
 use Rattle.mj_base.specs.declared.record.InodeRecord.{InodeRecord}

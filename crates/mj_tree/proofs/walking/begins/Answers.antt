@@ -1,5 +1,5 @@
 use Rattle.std.proofs.Common.{sym, ◌∙◌, arith}
-use Rattle.mj_tree.proofs.Paths.{begins_short, begins_more, begins_end}
+use Rattle.mj_tree.proofs.Paths.{begins_short, begins_end}
 use Rattle.mj_tree.proofs.walking.begins.Goals as goal
 
 pub returns-then-to-from : goal.returns-then-to-from

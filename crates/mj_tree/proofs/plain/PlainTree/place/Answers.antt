@@ -1,4 +1,4 @@
-use Rattle.std.proofs.Common.{sym, ap, ◌∙◌, Ok, rules}
+use Rattle.std.proofs.Common.{sym, ◌∙◌, Ok, rules}
 use Rattle.mj_tree.specs.Meaning.{state_of}
 use Rattle.mj_tree.proofs.Paths.{place_ok, place_not_dir, place_err}
 use Rattle.mj_tree.proofs.plain.PlainTree.place.Goals as goal
