@@ -21,6 +21,8 @@ mod record;
 mod record_grammar;
 mod short_text;
 mod sink;
+#[cfg(test)]
+mod tests;
 
 pub use cursor::{Cursor, Fault, put_u8, put_u16, put_u32, put_u64};
 pub use damage::Damage;
