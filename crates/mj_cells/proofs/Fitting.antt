@@ -1,10 +1,13 @@
 -- Cells whose values fit their keys stay so.
-use Rattle.std.proofs.Common.{sym, ap, subst, ◌∙◌, inl, inr}
+use Rattle.std.proofs.Common.{sym, ap, subst, ◌∙◌, inl, inr, List, [], ◌∷◌}
 use Rattle.mj_maps.specs.Map.{Map, get, insert, remove, empty}
 use Rattle.mj_maps.proofs.MapLaws.{some_same, none_some, cases_key, insert_same, insert_other, remove_same, remove_other, get_empty}
 use Rattle.mj_cells.specs.declared.cell.CellKey.{CellKey}
 use Rattle.mj_cells.specs.declared.cell.CellValue.{CellValue}
-use Rattle.mj_cells.specs.Cell.{key_cmp, Fits, AllFit}
+use Rattle.std.specs.List.{AllByRecursion}
+use Rattle.mj_cells.specs.declared.cell.CellWrite.{CellWrite}
+use Rattle.mj_cells.specs.Cell.{key_cmp, Fits, WriteFits, AllFit}
+use Rattle.mj_cells.specs.Table.{put_all}
 use Rattle.mj_cells.proofs.Keys.{exact_key}
 
 pub fit-empty : AllFit empty
@@ -21,3 +24,7 @@ fit-remove m k fit q x is = elim (cases_key exact_key q k) [
   | inl e ↦ absurd (none_some x (sym (remove_same exact_key m k) ∙ ap (get (remove m k)) (sym e) ∙ is))
   | inr other ↦ fit q x (sym (remove_other exact_key m k q other) ∙ is)
 ]
+
+pub fit-put_all : (m : Map key_cmp CellValue) (ws : List CellWrite) → AllFit m → AllByRecursion WriteFits ws → AllFit (put_all m ws)
+fit-put_all m [] fit all = fit
+fit-put_all m (w ∷ ws) fit all = fit-put_all (insert m w.key w.value) ws (fit-insert m w.key w.value fit all.0) all.1

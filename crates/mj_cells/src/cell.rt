@@ -1,9 +1,12 @@
 //! Cells: their keys, their values, and a write of one.
 
+ghost use Rattle.std.specs.Prelude.{◌≡◌, IfOk};
+
 use mj_base::{ClientId, Ino, InodeRecord, Kind, Name, Tid};
+use std::alloc::{AllocError, Global};
 
 /// The key of a cell. Keys go by the variants as listed here, and then by their fields, names by bytes.
-#[derive(Drop, PartialEq, Eq, PartialOrd, Ord)]
+#[derive(Debug, Drop, PartialEq, Eq, PartialOrd, Ord)]
 pub enum CellKey {
     /// A name in a directory.
     Dentry(Ino, Name),
@@ -20,7 +23,7 @@ pub enum CellKey {
 }
 
 /// What a cell holds.
-#[derive(Drop)]
+#[derive(Debug, Drop)]
 pub enum CellValue {
     /// A dentry with its inode's record, by version.
     Full(u64, InodeRecord),
@@ -36,8 +39,52 @@ pub enum CellValue {
 }
 
 /// A write of a cell.
-#[derive(Drop)]
+#[derive(Debug, Drop)]
 pub struct CellWrite {
     pub key: CellKey,
     pub value: CellValue,
+}
+
+impl CellKey {
+    /// The same key again.
+    pub fn copy(&self, alloc: Global) -> Result<CellKey, AllocError>
+        ensures { IfOk result (λ same. same ≡ self.now) }
+    {
+        match self {
+            CellKey::Dentry(dir, name) => Ok(CellKey::Dentry(*dir, name.copy(alloc)?)),
+            CellKey::DirHead(dir) => Ok(CellKey::DirHead(*dir)),
+            CellKey::NextIno => Ok(CellKey::NextIno),
+            CellKey::Session(client) => Ok(CellKey::Session(*client)),
+            CellKey::Done(client, tid) => Ok(CellKey::Done(*client, *tid)),
+            CellKey::OpenOf(client, ino) => Ok(CellKey::OpenOf(*client, *ino)),
+        }
+    }
+}
+
+impl CellValue {
+    /// The same value again.
+    pub fn copy(&self, alloc: Global) -> Result<CellValue, AllocError>
+        ensures { IfOk result (λ same. same ≡ self.now) }
+    {
+        match self {
+            CellValue::Full(version, inode) => Ok(CellValue::Full(*version, inode.copy(alloc)?)),
+            CellValue::Remote(version, ino, kind) => Ok(CellValue::Remote(*version, *ino, *kind)),
+            CellValue::Null(version) => Ok(CellValue::Null(*version)),
+            CellValue::Number(n) => Ok(CellValue::Number(*n)),
+            CellValue::Present => Ok(CellValue::Present),
+            CellValue::Gone => Ok(CellValue::Gone),
+        }
+    }
+}
+
+impl CellWrite {
+    /// The same write again.
+    pub fn copy(&self, alloc: Global) -> Result<CellWrite, AllocError>
+        ensures { IfOk result (λ same. same ≡ self.now) }
+    {
+        Ok(CellWrite {
+            key: self.key.copy(alloc)?,
+            value: self.value.copy(alloc)?,
+        })
+    }
 }
