@@ -22,7 +22,7 @@ is_less Less h = refl
 is_less Equal h = absurd h
 is_less Greater h = refl
 
-not_below : (k : CellKey) (es : List (CellKey × CellValue)) → T (below_all key_cmp k es) → find key_cmp k es ≡ None
+pub not_below : (k : CellKey) (es : List (CellKey × CellValue)) → T (below_all key_cmp k es) → find key_cmp k es ≡ None
 not_below k [] h = refl
 not_below k (e ∷ es) h = rw (is_less (key_cmp k e.0) (left_true _ _ h)) (not_below k es (right_true _ _ h))
 

@@ -62,9 +62,13 @@ module _ {X : Type 0} where
   sorted_keys [] h = tt
   sorted_keys (e ∷ es) h = both_true _ _ (below_keys e.0 es h.0) (sorted_keys es h.1)
 
-  -- a tree's entries are those of its map
+  -- a tree's entries rise by their keys
+  pub tree_sorted : (es : List (CellKey × X)) → IsStrictlySortedBy tree_cmp (map (λ e. e.0) es) → T (is_sorted key_cmp es)
+  tree_sorted es h = sorted_keys es (subst (λ (r : CellKey → CellKey → Ordering). IsStrictlySortedBy r (map (λ e. e.0) es)) tree_order h)
+
+  -- and are those of its map
   pub entries_kept : (es : List (CellKey × X)) → IsStrictlySortedBy tree_cmp (map (λ e. e.0) es) → entries (from_entries {R = key_cmp} es) ≡ es
-  entries_kept es h = entries-from_entries exact_key es (sorted_keys es (subst (λ (r : CellKey → CellKey → Ordering). IsStrictlySortedBy r (map (λ e. e.0) es)) tree_order h))
+  entries_kept es h = entries-from_entries exact_key es (tree_sorted es h)
 
 -- ---- the least cell above a key
 

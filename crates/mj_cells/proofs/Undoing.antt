@@ -1,7 +1,7 @@
 -- A write that is taken back leaves what was there.
-use Rattle.std.proofs.Common.{◌≡◌, Bool, true, false, cond, List, [], ◌∷◌, ◌++◌, Option, Some, None, refl, sym, ap, subst, ◌∙◌}
+use Rattle.std.proofs.Common.{◌≡◌, List, [], ◌∷◌, ◌++◌, Option, Some, None, refl, sym, ap, subst, ◌∙◌}
 use Rattle.std.specs.Prelude.{IsSome}
-use Rattle.mj_maps.specs.Map.{Map, get, insert, remove}
+use Rattle.mj_maps.specs.Map.{Map, get, insert}
 use Rattle.mj_maps.proofs.MapLaws.{insert_same, insert-insert, insert_again, absent_remove-insert}
 use Rattle.mj_cells.specs.declared.cell.CellKey.{CellKey}
 use Rattle.mj_cells.specs.declared.cell.CellValue.{CellValue}

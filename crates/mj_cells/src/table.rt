@@ -1,6 +1,6 @@
 //! Tables of cells.
 
-ghost use Rattle.std.specs.Prelude.{◌≡◌, OnOk, OnErr};
+ghost use Rattle.std.specs.Prelude.{◌≡◌, IfOk, OnOk, OnErr};
 ghost use Rattle.std.specs.List.{AllByRecursion};
 ghost use Rattle.std.specs.Option.{option_copied, option_map};
 ghost use Rattle.std.specs.Bound.{bound_map};
@@ -10,6 +10,7 @@ ghost use Rattle.mj_cells.specs.Table.{put_all};
 ghost use Rattle.mj_cells.specs.Next.{bound_above, next_cell, cell_of};
 
 use crate::cell::{CellKey, CellValue, CellWrite};
+use crate::copying::copy_cells;
 use crate::undo::{undo, write_all};
 use std::alloc::{AllocError, Global};
 use std::collections::BTreeMap;
@@ -39,6 +40,7 @@ impl Model for CellTable {
 }
 
 /// A cell of a table.
+#[derive(Clone, Copy, Debug)]
 pub struct CellView<'a> {
     pub key: &'a CellKey,
     pub value: &'a CellValue,
@@ -52,6 +54,15 @@ impl CellTable {
         CellTable {
             kept: BTreeMap::new(alloc),
         }
+    }
+
+    /// The same cells again.
+    pub fn copy(&self, alloc: Global) -> Result<CellTable, AllocError>
+        ensures { IfOk result (λ same. same ≡ self.now) }
+    {
+        let mut kept = BTreeMap::new(alloc);
+        copy_cells(alloc, &self.kept, &mut kept)?;
+        Ok(CellTable { kept })
     }
 
     /// Each value fits its key.
@@ -69,7 +80,7 @@ impl CellTable {
     }
 
     /// Writes a cell.
-    pub fn put(&mut self, w: CellWrite) -> Result<(), AllocError>
+    pub fn put(&mut self, _alloc: Global, w: CellWrite) -> Result<(), AllocError>
         requires { WriteFits w }
         ensures ok { OnOk result (self.new ≡ insert self.old w.key w.value) }
         ensures err { OnErr result (self.new ≡ self.old) }

@@ -1,6 +1,5 @@
-use Rattle.std.proofs.Common.{◌≡◌, Option, Some, None, Result, Ok, Err, sym, ap, subst, ◌∙◌}
+use Rattle.std.proofs.Common.{◌≡◌, Option, Some, None, Result, Ok, Err, sym, ap, ◌∙◌}
 use Rattle.std.specs.Prelude.{IsSome, OnOk, OnErr}
-use Rattle.mj_maps.specs.Map.{get}
 use Rattle.mj_cells.specs.Table.{with_at}
 use Rattle.mj_cells.specs.Undo.{cells}
 use Rattle.mj_cells.proofs.Kept.{get_kept, one_given, one_taken}

@@ -1,8 +1,8 @@
-use Rattle.std.proofs.Common.{◌≡◌, List, [], ◌∷◌, ◌++◌, sym, ap, subst, ◌∙◌}
+use Rattle.std.proofs.Common.{sym, ap, subst, ◌∙◌}
 use Rattle.mj_maps.specs.Map.{Map}
 use Rattle.mj_cells.specs.declared.cell.CellValue.{CellValue}
 use Rattle.mj_cells.specs.Cell.{key_cmp}
-use Rattle.mj_cells.specs.Undo.{Before, cells, undone, CanUndo}
+use Rattle.mj_cells.specs.Undo.{cells, undone, CanUndo}
 use Rattle.mj_cells.proofs.Undoing.{undone-push, can_undo_last}
 use Rattle.mj_cells.proofs.undo.undo.Goals as goal
 
