@@ -88,9 +88,13 @@ fn append_object(name: &ObjectName, out: &mut Vec<u8>) -> Result<(), AllocError>
 fn append_mode(mode: u16, out: &mut Vec<u8>) -> Result<(), AllocError>
     ensures { OnOk result (out.new.items ≡ out.old.items ++ octal mode) }
 {
-    let text = format!(in *out.allocator(); "{mode:04o}")?;
-    out.extend_from_slice(text.as_bytes())?;
-    Ok(())
+    let digits = [
+        b'0' + (mode / 512 % 8) as u8,
+        b'0' + (mode / 64 % 8) as u8,
+        b'0' + (mode / 8 % 8) as u8,
+        b'0' + (mode % 8) as u8,
+    ];
+    out.extend_from_slice(&digits)
 }
 
 /// Appends a line of a word and numbers.
