@@ -13,7 +13,7 @@ use Rattle.mj_tree.specs.declared.request.Reply.TheVariants.{Done, Error, Found,
 
 -- the words behind the first one, each behind a space
 pub words_behind : {A : Type 0} (text : A → List ℕ) (w : List ℕ) (xs : List A) → words (w ∷ map text xs) ≡ w ++ flat_map (λ y. 32 ∷ text y) xs
-words_behind text w [] = sym (append-nil w)
+words_behind text w [] = refl
 words_behind text w (y ∷ xs) = ap (λ t. w ++ 32 ∷ t) (words_behind text (text y) xs)
 
 pub words_first : {A : Type 0} (text : A → List ℕ) (xs : List A) (x : A) → 1 ≤ length xs → x ≡ get_or xs 0 x → words (map text xs) ≡ text x ++ flat_map (λ y. 32 ∷ text y) (drop 1 xs)
@@ -27,11 +27,11 @@ padded_zeros width ds = simp (sub-zero, append-nil) refl
 
 -- words behind others, of which there are some
 then_one : (x : List ℕ) (ys : List (List ℕ)) → words (x ∷ ys) ≡ x ++ flat_map (λ y. 32 ∷ y) ys
-then_one x [] = sym (append-nil x)
+then_one x [] = refl
 then_one x (y ∷ ys) = ap (λ t. x ++ 32 ∷ t) (then_one y ys)
 
 then_words : (x : List ℕ) (xs ys : List (List ℕ)) → words ((x ∷ xs) ++ ys) ≡ words (x ∷ xs) ++ flat_map (λ y. 32 ∷ y) ys
-then_words x [] ys = then_one x ys
+then_words x [] ys = then_one x ys ∙ ap (λ (t : List ℕ). t ++ flat_map (λ (y : List ℕ). 32 ∷ y) ys) (sym (append-nil x))
 then_words x (y ∷ xs) ys = ap (λ t. x ++ 32 ∷ t) (then_words y xs ys) ∙ sym (append_assoc x (32 ∷ words (y ∷ xs)) (flat_map (λ z. 32 ∷ z) ys))
 
 -- words behind those of a reply
