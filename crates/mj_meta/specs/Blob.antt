@@ -1,5 +1,5 @@
 -- A blob in bytes.
-use Rattle.std.specs.Prelude.{ℕ, ◌<◌, ◌^◌, Bool, not, ◌&&◌, ◌==◌, nat_lt, List, [], ◌∷◌, ◌++◌, length, map, slice_index, IsTrue, Option, None, option_map}
+use Rattle.std.specs.Prelude.{ℕ, ◌<◌, ◌^◌, Bool, not, ◌&&◌, ◌==◌, nat_lt, List, [], ◌∷◌, ◌++◌, length, map, IsTrue, Option, None, option_map}
 use Rattle.std.specs.List.{flat_map, list_any, AllByRecursion}
 use Rattle.std.specs.Ordering.{is_lt}
 use Rattle.mj_base.specs.Reading.{is_above, all_follow, two, four, eight}
@@ -14,10 +14,6 @@ use Rattle.mj_meta.specs.declared.RemoteBit.{RemoteBit}
 use Rattle.mj_meta.specs.declared.NullBit.{NullBit}
 use Rattle.mj_meta.specs.declared.DirLump.{DirLump}
 use Rattle.mj_meta.specs.declared.MetaBlob.{MetaBlob}
-
--- each is below 256
-abbrev pub AreBytes : List ℕ → Type 0
-AreBytes bytes = (i : ℕ) → slice_index bytes i < 256
 
 abbrev pub name_bytes : List ℕ → List ℕ
 name_bytes name = two (length name) ++ name

@@ -2,7 +2,8 @@
 
 ghost use Rattle.std.specs.Prelude.{◌≡◌, ◌++◌, ℕ, List, Ok};
 ghost use Rattle.mj_meta.specs.declared.MetaBlob.{MetaBlob};
-ghost use Rattle.mj_meta.specs.Blob.{AreBytes, IsBlob, blob_bytes};
+ghost use Rattle.mj_base.specs.Reading.{AreBytes};
+ghost use Rattle.mj_meta.specs.Blob.{IsBlob, blob_bytes};
 ghost use Rattle.mj_meta.specs.BlobReading.{blob_at};
 
 /// A blob's bytes are read as that blob, whatever follows them.

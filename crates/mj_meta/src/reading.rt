@@ -2,6 +2,7 @@
 
 ghost use Rattle.std.specs.Prelude.{◌≡◌, ◌≤◌, Ok, IfOk, IfErr, drop, length};
 ghost use Rattle.mj_base.specs.Cursor.{Faults};
+ghost use Rattle.mj_meta.specs.Blob.{IsBlob};
 ghost use Rattle.mj_meta.specs.BlobReading.{blob_at, blob_in};
 ghost use Rattle.mj_meta.specs.BlobRefused.{IsBlobRefusal};
 
@@ -24,6 +25,7 @@ pub enum BlobRefusal {
 pub fn blob_read(alloc: Global, bytes: &[u8], from: usize) -> Result<(MetaBlob, usize), BlobRefusal>
     ensures read { IfOk result (λ x. blob_in bytes.now from ≡ Ok x) }
     ensures refused { IfErr result (λ why. IsBlobRefusal why (blob_in bytes.now from)) }
+    ensures fits { IfOk result (λ x. IsBlob x.0) }
 {
     let mut cursor = Cursor::new(from_offset(bytes, from));
     match blob_field(alloc, &mut cursor) {
