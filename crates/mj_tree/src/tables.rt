@@ -118,7 +118,8 @@ impl PlainTree {
         self.sessions.len()
     }
 
-    pub(crate) fn session(&self, client: ClientId) -> Option<&PlainSession>
+    /// The session of a client.
+    pub fn session(&self, client: ClientId) -> Option<&PlainSession>
         ensures { option_map session_of (option_copied result) ≡ get (state_of self.now).sessions client }
     {
         lists::session_in(&self.sessions, client)
