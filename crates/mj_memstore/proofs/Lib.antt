@@ -1,0 +1,13 @@
+mod PairLemmas
+mod WriteLemmas
+mod ContentLemmas
+mod HeldLemmas
+mod OrderLemmas
+mod ObjectsLemmas
+mod ListedLemmas
+mod MemoryLemmas
+mod StepLemmas
+mod RestLemmas
+mod PageLemmas
+mod RiseLemmas
+mod HoldingLemmas

@@ -1,0 +1,10 @@
+pub mod Pairs
+pub mod Content
+pub mod Room
+pub mod HeldView
+pub mod Held
+pub mod Plan
+pub mod Memory
+pub mod Facts
+pub mod Holding
+pub mod Store

@@ -1,0 +1,21 @@
+//! An object store in memory. It tells everything, and fails the calls that it is told to.
+#![tactic(auto)]
+
+mod apply;
+mod bytes;
+mod held;
+mod making;
+mod memory;
+mod objects;
+mod pairs;
+mod plan;
+mod queued;
+mod read;
+mod room;
+mod store;
+mod submit;
+#[cfg(test)]
+mod tests;
+
+pub use memory::MemStore;
+pub use mj_store::HeldObject;
