@@ -1,0 +1,9 @@
+mod Naming
+mod FieldLaws
+mod Runs
+mod Rising
+mod Codec
+mod WholeLaws
+mod Pieces
+mod Sizes
+mod Rows
