@@ -13,6 +13,7 @@ key_words (b ∷ key) = escaped (b ∷ key) ∷ []
 
 -- the name of a damage and its numbers
 abbrev pub damage_words : Damage → List (List ℕ)
+damage_words damage.Unbuilt = codes "Unbuilt" ∷ []
 damage_words damage.HeaderMissing = codes "HeaderMissing" ∷ []
 damage_words (damage.HeaderBad at) = codes "HeaderBad" ∷ decimal at ∷ []
 damage_words damage.HeaderOrder = codes "HeaderOrder" ∷ []
@@ -34,4 +35,3 @@ damage_words (damage.BadNext ino) = codes "BadNext" ∷ decimal ino ∷ []
 damage_words (damage.BadOpen client ino) = codes "BadOpen" ∷ decimal client ∷ decimal ino ∷ []
 damage_words (damage.BadSession client) = codes "BadSession" ∷ decimal client ∷ []
 damage_words (damage.OverLimit n) = codes "OverLimit" ∷ decimal n ∷ []
-damage_words _ = []

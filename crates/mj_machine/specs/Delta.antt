@@ -27,9 +27,9 @@ use Rattle.mj_cells.specs.declared.cell.CellKey.TheVariants.{Dentry, DirHead, Ne
 use Rattle.mj_cells.specs.declared.cell.CellValue.{CellValue}
 use Rattle.mj_cells.specs.declared.cell.CellValue.TheVariants.{Full, Remote, Null, Number, Present, Gone}
 use Rattle.mj_cells.specs.declared.cell.CellWrite.{CellWrite}
-use Rattle.mj_cells.specs.Table.{Table, value_of, overlay}
+use Rattle.mj_cells.specs.Table.{Table, value_of, dentry_value, overlay}
 use Rattle.mj_cells.specs.Table as table
-use Rattle.mj_recovery.specs.Tree.{Entry, is_among, holding, tree_of}
+use Rattle.mj_recovery.specs.Tree.{Entry, ino_of, is_among, reachable, holding, tree_of}
 
 -- two values that say the same, versions aside: null and gone are one
 abbrev pub same_content : CellValue → CellValue → Bool
@@ -124,8 +124,20 @@ module _ (rank : ℕ) (t : Table) (r : ClientRequest) where
   abbrev pub dentry_after : ℕ × List ℕ → ℕ → CellValue
   dentry_after q version = dentry_at q version (inode_at q)
 
+  -- A dentry is of the old tree where its directory is reachable; in stray, where its inode has a record.
+  abbrev pub is_of_tree : ℕ × List ℕ → table.Dentry → Bool
+  is_of_tree q d = if q.0 == stray_ino rank then is_some (get old.records (ino_of d)) else is_among (reachable t) q.0
+
+  -- what the old tree knows of a dentry
+  abbrev pub dentry_before : ℕ × List ℕ → CellValue
+  dentry_before q = by_dentry (get t.dentries q)
+    where
+      by_dentry : Option table.Dentry → CellValue
+      by_dentry None = Gone
+      by_dentry (Some d) = if is_of_tree q d then dentry_value (Some d) else Gone
+
   abbrev pub is_changed : ℕ × List ℕ → Bool
-  is_changed q = not (same_content (value_of t (Dentry q.0 q.1)) (dentry_after q 0))
+  is_changed q = not (same_content (dentry_before q) (dentry_after q 0))
 
   -- ---- heads
 

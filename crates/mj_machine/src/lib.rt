@@ -6,4 +6,4 @@ mod kept;
 mod laws;
 
 pub use kept::{ChronicleEntry, Kept};
-pub use laws::safe_requests_stay;
+pub use laws::{safe_requests_stay, turns_keep_what_is_safe};

@@ -1,8 +1,7 @@
 -- What is wrong with a table: the rows of damage in their order, each of which names the least inode or client.
-use Rattle.std.specs.Prelude.{ℕ, ◌+◌, Bool, true, not, ◌&&◌, ◌||◌, ◌==◌, nat_lt, nat_le, min, List, [], ◌∷◌, ◌++◌, map, filter, filter_map, is_none, if◌then◌else◌, Option, None, Some, option_map, unwrap_or}
+use Rattle.std.specs.Prelude.{ℕ, ◌+◌, Bool, true, not, ◌&&◌, ◌||◌, ◌==◌, nat_lt, nat_le, min, List, [], ◌∷◌, ◌++◌, map, filter, filter_map, is_none, if◌then◌else◌, Option, None, Some, option_map, option_and_then, unwrap_or}
 use Rattle.std.specs.List.{list_any}
-use Rattle.mj_maps.specs.Map.{Map, entries, get, len}
-use Rattle.mj_maps.specs.Orders.{nat_cmp}
+use Rattle.mj_maps.specs.Map.{entries, get, len, passing}
 use Rattle.mj_base.specs.InOrder.{same_bytes}
 use Rattle.mj_base.specs.ObjectName.{hex, stray_ino, first_ino}
 use Rattle.mj_base.specs.Record.{same_kind}
@@ -10,7 +9,7 @@ use Rattle.mj_base.specs.declared.record.Kind.{Kind}
 use Rattle.mj_base.specs.declared.record.InodeRecord.{InodeRecord}
 use Rattle.mj_base.specs.declared.damage.Damage.{Damage}
 use Rattle.mj_base.specs.declared.damage.Damage.TheVariants as damage
-use Rattle.mj_tree.specs.State.{PlainState, Session, root, link_count, entry_count, is_file}
+use Rattle.mj_tree.specs.State.{PlainState, root, link_count, entry_count, is_file}
 use Rattle.mj_tree.specs.Row.{most_entries, most_inodes, most_opens}
 use Rattle.mj_tree.specs.Answer.{most_sessions, most_kept}
 use Rattle.mj_cells.specs.declared.cell.CellKey.{CellKey}
@@ -34,6 +33,7 @@ abbrev pub least : List ℕ → Option ℕ
 least [] = None
 least (n ∷ ns) = Some (or_less n (least ns))
 
+-- how often a number stands there
 abbrev pub times : ℕ → List ℕ → ℕ
 times n [] = 0
 times n (m ∷ ms) = if n == m then times n ms + 1 else times n ms
@@ -41,9 +41,9 @@ times n (m ∷ ms) = if n == m then times n ms + 1 else times n ms
 abbrev pub inos : List InodeRecord → List ℕ
 inos rs = map (λ (r : InodeRecord). r.ino) rs
 
--- a directory that holds dentries has no head
-abbrev pub headless : Map nat_cmp ℕ → List ℕ → List ℕ
-headless heads dirs = filter (λ d. is_none (get heads d)) dirs
+-- the directories that have no head
+abbrev pub headless : (ℕ → Option ℕ) → List ℕ → List ℕ
+headless head dirs = filter (λ d. is_none (head d)) dirs
 
 -- two full dentries carry one inode, or one the root's
 abbrev pub twice : List ℕ → List ℕ
@@ -61,8 +61,8 @@ lone_remote dirs rs e = if is_among dirs e.0.0 then by_dentry e.1 else None
     by_dentry (Remote version i kind) = if is_full_of i kind rs then None else Some i
 
 -- the stored count differs from the number of links
-abbrev pub miscounted : PlainState → List InodeRecord → List ℕ
-miscounted s rs = inos (filter (λ (r : InodeRecord). not (r.links == link_count s r.ino)) rs)
+abbrev pub miscounted : (ℕ → ℕ) → List InodeRecord → List ℕ
+miscounted links rs = inos (filter (λ (r : InodeRecord). not (r.links == links r.ino)) rs)
 
 -- an inode that the rank has given
 abbrev pub is_given : ℕ → ℕ → ℕ → Bool
@@ -75,51 +75,57 @@ misnamed rank e = if (e.0.0 == stray_ino rank) && not (same_bytes e.0.1 (hex (in
 abbrev pub is_known : ℕ → ℕ → ℕ → Bool
 is_known rank next d = (d == root) || (d == stray_ino rank) || is_given rank next d
 
+-- the next inode, where it is below all that the rank gives
+abbrev pub low_next : ℕ → ℕ → List ℕ
+low_next rank next = if nat_lt next (first_ino rank) then next ∷ [] else []
+
 abbrev pub out_of_range : ℕ → ℕ → List ℕ → List ℕ → List Entry → List ℕ
 out_of_range rank next is dirs es =
-    filter (λ n. nat_lt n (first_ino rank)) (next ∷ [])
+    low_next rank next
     ++ filter (λ i. not (is_given rank next i)) is
     ++ filter (λ d. not (is_known rank next d)) dirs
     ++ filter_map (misnamed rank) es
 
 -- an open without a session or without a file's record: the least inode, and its least client
-abbrev pub is_bad_open : PlainState → (ℕ × ℕ) × Unit {0} → Bool
-is_bad_open s o = is_none (get s.sessions o.0.0) || not (is_file s o.0.1)
+abbrev pub is_bad_open : (ℕ → Option ℕ) → (ℕ → Bool) → ℕ × ℕ → Bool
+is_bad_open oldest is_file o = is_none (oldest o.0) || not (is_file o.1)
 
-abbrev pub client_of : ℕ → (ℕ × ℕ) × Unit {0} → Option ℕ
-client_of i o = if o.0.1 == i then Some o.0.0 else None
+abbrev pub bad_opens : (ℕ → Option ℕ) → (ℕ → Bool) → List (ℕ × ℕ) → List (ℕ × ℕ)
+bad_opens oldest is_file os = filter (is_bad_open oldest is_file) os
 
-abbrev pub first_open : List ((ℕ × ℕ) × Unit {0}) → Option Damage
-first_open os = by_ino (least (map (λ (o : (ℕ × ℕ) × Unit {0}). o.0.1) os))
+abbrev pub client_of : ℕ → ℕ × ℕ → Option ℕ
+client_of i o = if o.1 == i then Some o.0 else None
+
+abbrev pub opened_by : List (ℕ × ℕ) → ℕ → Option Damage
+opened_by os i = option_map (λ client. damage.BadOpen client i) (least (filter_map (client_of i) os))
+
+abbrev pub first_open : List (ℕ × ℕ) → Option Damage
+first_open os = option_and_then (opened_by os) (least (map (λ (o : ℕ × ℕ). o.1) os))
+
+-- a kept reply without a session or below its oldest, or one of more than 64
+abbrev pub replies : List ((ℕ × ℕ) × ℕ) → ℕ → ℕ
+replies done client = passing (λ (e : (ℕ × ℕ) × ℕ). e.0.0 == client) done
+
+abbrev pub is_bad_reply : (ℕ → Option ℕ) → List ((ℕ × ℕ) × ℕ) → (ℕ × ℕ) × ℕ → Bool
+is_bad_reply oldest done e = by_session (oldest e.0.0)
   where
-    by_ino : Option ℕ → Option Damage
-    by_ino None = None
-    by_ino (Some i) = option_map (λ client. damage.BadOpen client i) (least (filter_map (client_of i) os))
-
-abbrev pub bad_opens : PlainState → List ((ℕ × ℕ) × Unit {0})
-bad_opens s = filter (is_bad_open s) (entries s.opens)
-
--- a kept reply without a session or below its oldest, or more than 64
-abbrev pub is_bad_reply : PlainState → (ℕ × ℕ) × ℕ → Bool
-is_bad_reply s e = by_session (get s.sessions e.0.0)
-  where
-    by_session : Option Session → Bool
+    by_session : Option ℕ → Bool
     by_session None = true
-    by_session (Some c) = nat_lt e.0.1 c.oldest || nat_lt most_kept (len c.kept)
+    by_session (Some first) = nat_lt e.0.1 first || nat_lt most_kept (replies done e.0.0)
 
-abbrev pub bad_sessions : PlainState → Table → List ℕ
-bad_sessions s t = map (λ (e : (ℕ × ℕ) × ℕ). e.0.0) (filter (is_bad_reply s) (entries t.done))
+abbrev pub bad_replies : (ℕ → Option ℕ) → List ((ℕ × ℕ) × ℕ) → List ℕ
+bad_replies oldest done = map (λ (e : (ℕ × ℕ) × ℕ). e.0.0) (filter (is_bad_reply oldest done) done)
 
 -- more than the limit
 abbrev pub over : ℕ → ℕ → Option ℕ
 over limit n = if nat_lt limit n then Some n else None
 
 -- the entries of the least directory that has too many
-abbrev pub over_entries : PlainState → List ℕ → Option ℕ
-over_entries s dirs = option_map (entry_count s) (least (filter (λ d. nat_lt most_entries (entry_count s d)) dirs))
+abbrev pub over_entries : (ℕ → ℕ) → List ℕ → Option ℕ
+over_entries count dirs = option_map count (least (filter (λ d. nat_lt most_entries (count d)) dirs))
 
 abbrev pub over_limit : PlainState → List ℕ → Option ℕ
-over_limit s dirs = first_some (over_entries s dirs ∷ over most_inodes (len s.records) ∷ over most_sessions (len s.sessions) ∷ over most_opens (len s.opens) ∷ [])
+over_limit s dirs = first_some (over_entries (entry_count s) dirs ∷ over most_inodes (len s.records) ∷ over most_sessions (len s.sessions) ∷ over most_opens (len s.opens) ∷ [])
 
 -- The first that holds of a table, where these are the directories of live lumps.
 unfoldable pub tree_damage : ℕ → Table → List ℕ → Option Damage
@@ -128,13 +134,13 @@ tree_damage rank t lump_dirs =
     let fulls = full_records (holding rank t) (entries t.dentries) in
     let s = tree_of rank t in
     first_some (
-    option_map damage.DirfragMissing (least (headless t.heads (holding rank t)))
+    option_map damage.DirfragMissing (least (headless (get t.heads) (holding rank t)))
     ∷ option_map damage.TwoPrimaries (least (twice (inos fulls)))
     ∷ option_map damage.NoPrimary (least (filter_map (lone_remote dirs fulls) (entries t.dentries)))
-    ∷ option_map damage.BadLinks (least (miscounted s fulls))
+    ∷ option_map damage.BadLinks (least (miscounted (link_count s) fulls))
     ∷ option_map damage.BadNext (least (out_of_range rank (unwrap_or t.next 0) (inos fulls) lump_dirs (entries t.dentries)))
-    ∷ first_open (bad_opens s)
-    ∷ option_map damage.BadSession (least (bad_sessions s t))
+    ∷ first_open (bad_opens (get t.sessions) (is_file s) (map (λ (o : (ℕ × ℕ) × Unit {0}). o.0) (entries t.opens)))
+    ∷ option_map damage.BadSession (least (bad_replies (get t.sessions) (entries t.done)))
     ∷ option_map damage.OverLimit (over_limit s dirs)
     ∷ [])
 

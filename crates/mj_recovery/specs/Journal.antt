@@ -9,7 +9,7 @@ use Rattle.mj_layout.specs.Header.{header_of}
 use Rattle.mj_layout.specs.declared.Header.{Header}
 use Rattle.mj_layout.specs.declared.HeaderRefusal.{HeaderRefusal}
 use Rattle.mj_layout.specs.declared.HeaderRefusal.TheVariants.{HeaderBad, HeaderOrder}
-use Rattle.mj_entry.specs.Entry.{entry_at}
+use Rattle.mj_entry.specs.Entry.{EntryCase, entry_at}
 use Rattle.mj_entry.specs.Entry.EntryCase.{Whole, Part, BadSentinel, BadLength, BadStart}
 use Rattle.mj_cells.specs.declared.cell.CellWrite.{CellWrite}
 use Rattle.mj_event.specs.declared.Event.{Event}
@@ -17,6 +17,7 @@ use Rattle.mj_event.specs.declared.Event.TheVariants.{SubtreeMap, Reset}
 use Rattle.mj_event.specs.EventReading.{event_of}
 use Rattle.mj_event.specs.Writes.{writes_of}
 use Rattle.mj_recovery.specs.Stream.{journal_object, stream}
+use Rattle.mj_recovery.specs.declared.journal.Entries.{Entries}
 use Rattle.mj_recovery.specs.declared.journal.LiveEvent.{LiveEvent}
 use Rattle.mj_recovery.specs.declared.journal.LiveJournal.{LiveJournal}
 
@@ -38,29 +39,34 @@ live_header image rank = header_in (image (journal_object rank 0))
 
 -- ---- the events
 
--- events with their positions, and the place behind the last
-pub record Entries : Type 0 where
-  pub events : List LiveEvent
-  pub tail : ℕ
+-- the event of a payload that stands at a position, and the position behind its entry
+abbrev pub event_in : ℕ → ℕ → Result Event ℕ → Result (Option (LiveEvent × ℕ)) Damage
+event_in at ends (Ok event) = Ok (Some (record { at = at; event = event }, ends))
+event_in at ends (Err wrong) = Err (damage.BadEvent at wrong)
+
+-- What the bytes from a position on begin with: a whole entry with a readable event, or the tail, where the place is empty or
+-- a part of an entry at or above `write`; else it is damaged.
+abbrev pub next_entry : ℕ → ℕ → EntryCase → Result (Option (LiveEvent × ℕ)) Damage
+next_entry at write (Whole payload ends) = event_in at ends (event_of payload)
+next_entry at write Part = if nat_lt at write then Err (damage.CutEntry at) else Ok None
+next_entry at write BadSentinel = Err (damage.BadSentinel at)
+next_entry at write (BadLength len) = Err (damage.BadLength at len)
+next_entry at write (BadStart start) = Err (damage.BadStart at start)
 
 -- an event before the others
 abbrev pub before : LiveEvent → Entries → Entries
-before e rest = record rest { events = e ∷ rest.events }
+before e rest = record { events = e ∷ rest.events; tail = rest.tail }
 
--- The bytes from a position on as entries, one behind the other, each with a readable event. Where no more whole entry is,
--- there is the tail, if the place is empty or a part of an entry at or above `write`; else it is damaged.
--- An entry takes a byte at least, so one more turn than there are bytes is enough.
+abbrev pub nothing_at : ℕ → Entries
+nothing_at at = record { events = []; tail = at }
+
+-- Whole entries with readable events, one behind the other, and the tail behind them. An entry takes a byte at least, so one more
+-- turn than there are bytes is enough.
 unfoldable pub entries_in : ℕ → List ℕ → ℕ → ℕ → Result Entries Damage
-entries_in zero bytes at write = Ok (record { events = []; tail = at })
-entries_in (suc n) bytes at write = elim (entry_at bytes at) [
-  | Whole payload ends ↦ elim (event_of payload) [
-    | Ok event ↦ entries_in n (drop (ends - at) bytes) ends write >>= λ rest. Ok (before (record { at = at; event = event }) rest)
-    | Err wrong ↦ Err (damage.BadEvent at wrong)
-  ]
-  | Part ↦ if nat_lt at write then Err (damage.CutEntry at) else Ok (record { events = []; tail = at })
-  | BadSentinel ↦ Err (damage.BadSentinel at)
-  | BadLength len ↦ Err (damage.BadLength at len)
-  | BadStart start ↦ Err (damage.BadStart at start)
+entries_in zero bytes at write = Ok (nothing_at at)
+entries_in (suc n) bytes at write = next_entry at write (entry_at bytes at) >>= λ o. elim o [
+  | None ↦ Ok (nothing_at at)
+  | Some e ↦ entries_in n (drop (e.1 - at) bytes) e.1 write >>= λ rest. Ok (before e.0 rest)
 ]
 
 -- whether an event may stand first in a live journal
@@ -81,7 +87,7 @@ beginning found = by_first found.events
 abbrev pub live_entries : List ℕ → ℕ → ℕ → Result Entries Damage
 live_entries bytes expire write =
     let end = expire + length bytes in
-    if nat_lt end write then Err (damage.Hole end) else entries_in (suc (length bytes)) bytes expire write >>= beginning
+    if nat_lt end write then Err (damage.Hole end) else entries_in (length bytes + 1) bytes expire write >>= beginning
 
 unfoldable pub journal_from : Contents → ℕ → Header → Result LiveJournal Damage
 journal_from image rank h =

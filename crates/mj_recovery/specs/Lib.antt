@@ -1,4 +1,6 @@
 pub mod Objects
+pub mod Listed
+pub mod Gives
 pub mod Stream
 pub mod Journal
 pub mod Stored
@@ -6,3 +8,9 @@ pub mod Tree
 pub mod Damage
 pub mod Recovered
 pub mod Orderly
+pub mod Sorted
+pub mod Held
+pub mod View
+pub mod ListedDamage
+pub mod ListedObjects
+pub mod Formatted

@@ -85,12 +85,17 @@ merged_damage rank m j t = first_some (
     ∷ tree_damage rank t (lump_dirs (journal_writes j.events))
     ∷ [])
 
-abbrev pub judged : ℕ → Objects → LiveJournal → Table → Result Recovery Damage
-judged rank m j t = or_damage (merged_damage rank m j t) (record { journal = j; table = t; tree = tree_of rank t })
+-- what stands before it is judged
+abbrev pub merged_with : ℕ → Objects → LiveJournal → Recovery
+merged_with rank m j = let t = merged_table rank m j.events in record { journal = j; table = t; tree = tree_of rank t }
+
+-- the live journal with the merged table and its tree, or the first damage of the journal
+abbrev pub gathered : ℕ → Objects → Result Recovery Damage
+gathered rank m = live_journal (get m) rank >>= λ j. Ok (merged_with rank m j)
 
 -- The first damage, or the tree of the merged table.
 unfoldable pub recovered : ℕ → Objects → Result Recovery Damage
-recovered rank m = live_journal (get m) rank >>= λ j. judged rank m j (merged_table rank m j.events)
+recovered rank m = gathered rank m >>= λ r. or_damage (merged_damage rank m r.journal r.table) r
 
 -- An image recovers to this.
 pub record RecoversTo (rank : ℕ) (image : Contents) (r : Recovery) : Type 0 where

@@ -1,13 +1,14 @@
 -- The plain tree of a table.
-use Rattle.std.specs.Prelude.{◌≡◌, nat_eq, ℕ, zero, suc, Bool, ◌==◌, List, [], ◌∷◌, ◌++◌, length, filter_map, if◌then◌else◌, Option, None, Some, unwrap_or, option_and_then}
+use Rattle.std.specs.Prelude.{◌≡◌, nat_eq, ℕ, zero, suc, Bool, ◌==◌, List, [], ◌∷◌, ◌++◌, length, map, filter_map, if◌then◌else◌, Option, None, Some, unwrap_or, option_and_then}
 use Rattle.std.specs.List.{list_any}
-use Rattle.mj_maps.specs.Map.{entries, get, from_entries, collect, retain}
+use Rattle.mj_maps.specs.Map.{Map, entries, get, empty, from_entries, collect}
+use Rattle.mj_maps.specs.Orders.{nat_cmp}
 use Rattle.mj_base.specs.ObjectName.{stray_ino}
 use Rattle.mj_base.specs.Record.{same_kind}
 use Rattle.mj_base.specs.declared.record.Kind.TheVariants.{Dir}
 use Rattle.mj_base.specs.declared.record.InodeRecord.{InodeRecord}
-use Rattle.mj_tree.specs.State.{PlainState, Session, root, is_kept}
-use Rattle.mj_tree.specs.Lists.{record_entries}
+use Rattle.mj_tree.specs.declared.change.Attributes.{Attributes}
+use Rattle.mj_tree.specs.State.{PlainState, Session, root, is_kept, attributes_of}
 use Rattle.mj_cells.specs.Table.{Dentry, Table}
 use Rattle.mj_cells.specs.Table.Dentry.{Full, Remote}
 
@@ -33,7 +34,7 @@ pub data IsReachable (t : Table) : ℕ → Type 0 where
 -- ---- the same as a list
 
 abbrev pub is_among : List ℕ → ℕ → Bool
-is_among dirs d = list_any (nat_eq d) dirs
+is_among dirs d = list_any (λ e. nat_eq e d) dirs
 
 abbrev pub dir_below : List ℕ → Entry → Option ℕ
 dir_below dirs e = if is_among dirs e.0.0 then subdir e.1 else None
@@ -76,28 +77,38 @@ full_records dirs es = filter_map (full_record dirs) es
 abbrev pub holding : ℕ → Table → List ℕ
 holding rank t = stray_ino rank ∷ reachable t
 
+-- by inode; where two are of one inode, the first of them
+abbrev pub by_inode : List InodeRecord → Map nat_cmp InodeRecord
+by_inode rs = from_entries (map (λ (r : InodeRecord). (r.ino, r)) rs)
+
+abbrev pub primaries : List ℕ → List Entry → Map nat_cmp InodeRecord
+primaries dirs es = by_inode (full_records dirs es)
+
 -- the kept replies of a client
 abbrev pub reply_of : ℕ → (ℕ × ℕ) × ℕ → Option (ℕ × ℕ)
 reply_of client e = if e.0.0 == client then Some (e.0.1, e.1) else None
 
-abbrev pub session_in : Table → ℕ → ℕ → Option Session
-session_in t client oldest = Some (record { oldest = oldest; kept = from_entries (filter_map (reply_of client) (entries t.done)) })
+abbrev pub session_in : List ((ℕ × ℕ) × ℕ) → ℕ → ℕ → Option Session
+session_in done client oldest = Some (record { oldest = oldest; kept = from_entries (filter_map (reply_of client) done) })
 
 -- the link that a dentry of these directories is
 abbrev pub link_in : List ℕ → ℕ × List ℕ → Dentry → Option ℕ
 link_in dirs place d = if is_among dirs place.0 then Some (ino_of d) else None
 
--- a state without the records that nothing keeps
-abbrev pub swept : PlainState → PlainState
-swept s = record s { records = retain (λ i _. is_kept s i) s.records }
+-- what a record says, where a link or an open keeps it
+abbrev pub record_in : PlainState → ℕ → InodeRecord → Option Attributes
+record_in s i r = if is_kept s i then Some (attributes_of r) else None
 
--- Links are the dentries of reachable directories. Records are the full dentries there and in stray that are kept.
--- Opens, sessions and the next inode are their cells.
-unfoldable pub tree_of : ℕ → Table → PlainState
-tree_of rank t = swept (record {
+-- Links are the dentries of reachable directories. Opens, sessions and the next inode are their cells.
+abbrev pub bare_tree : Table → PlainState
+bare_tree t = record {
   next = unwrap_or t.next 0;
-  records = from_entries (record_entries (full_records (holding rank t) (entries t.dentries)));
+  records = empty;
   links = collect (link_in (reachable t)) t.dentries;
   opens = t.opens;
-  sessions = collect (session_in t) t.sessions;
-})
+  sessions = collect (session_in (entries t.done)) t.sessions;
+}
+
+-- Records are the full dentries of reachable directories and of stray that are kept.
+unfoldable pub tree_of : ℕ → Table → PlainState
+tree_of rank t = let s = bare_tree t in record s { records = collect (record_in s) (primaries (holding rank t) (entries t.dentries)) }

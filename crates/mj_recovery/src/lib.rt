@@ -1,6 +1,30 @@
 //! What an image of the store recovers to.
 #![tactic(auto)]
 
+mod bad;
+mod cells;
 mod journal;
+mod judge;
+mod laws;
+mod merging;
+mod objects;
+mod plain;
+mod put;
+mod reach;
+mod recover;
+mod refusal;
+mod rows;
+mod stored;
+mod stream;
+#[cfg(test)]
+mod tests;
 
-pub use journal::{LiveEvent, LiveJournal};
+pub use cells::{Cells, HeldDentry, HeldEntry};
+pub use journal::{Entries, LiveEvent, LiveJournal};
+pub use laws::{
+    formatted_store_begins, last_write_counts, one_recovery, one_tree_per_table,
+    probed_end_is_least, reachable_are_listed,
+};
+pub use objects::are_held;
+pub use recover::{Recovery, gather, recovered};
+pub use refusal::RecoverRefusal;
