@@ -1,0 +1,11 @@
+pub mod Journalled
+pub mod Headers
+pub mod Ranks
+pub mod Elsewhere
+pub mod Few
+pub mod Serves
+pub mod Rests
+pub mod Mounts
+pub mod Calls
+pub mod Steps
+pub mod Gathered
