@@ -1,2 +1,5 @@
 mod Blocks
+mod Rings
+mod Room
 pub mod Out
+pub mod Kept

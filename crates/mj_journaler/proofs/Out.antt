@@ -3,9 +3,8 @@ use Rattle.std.proofs.Common.{◌≡◌, ◌⊎◌, inl, inr, ℕ, ◌≤◌, Bo
 use Rattle.std.specs.Prelude.{◌==◌, nat_le, if◌then◌else◌}
 use Rattle.std.proofs.lemmas.Bool.{cond_both, leb-true, eqb-true}
 use Rattle.mj_store.specs.Causes.{In}
-use Rattle.mj_journaler.specs.Journal.{Sent}
-use Rattle.mj_journaler.specs.Keeps.{Rises}
-use Rattle.mj_journaler.specs.Outstanding.{lowest, without, last_end, ends_above}
+use Rattle.mj_journaler.specs.declared.sent.Sent.{Sent}
+use Rattle.mj_journaler.specs.Outstanding.{Rises, lowest, without, last_end, ends_above}
 
 -- ---- the lowest position that is out
 

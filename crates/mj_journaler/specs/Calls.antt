@@ -1,5 +1,5 @@
 -- What a journaler's calls answer and leave.
-use Rattle.std.specs.Prelude.{ℕ, ◌+◌, ◌-◌, ◌*◌, ◌/◌, ◌^◌, ◌==◌, ◌&&◌, ◌||◌, nat_le, nat_lt, Option, Some, None, List, [], ◌∷◌, ◌++◌, length, take, drop, if◌then◌else◌}
+use Rattle.std.specs.Prelude.{ℕ, ◌+◌, ◌-◌, ◌*◌, ◌/◌, ◌^◌, ◌==◌, ◌&&◌, ◌||◌, max, nat_le, nat_lt, Option, Some, None, List, [], ◌∷◌, ◌++◌, length, take, drop, if◌then◌else◌}
 use Rattle.mj_base.specs.declared.object.ObjectName.{ObjectName}
 use Rattle.mj_base.specs.declared.object.ObjectName.TheVariants.{File}
 use Rattle.mj_base.specs.ObjectName.{journal_ino}
@@ -10,8 +10,11 @@ use Rattle.mj_layout.specs.Place.{object_of, offset_of}
 use Rattle.mj_layout.specs.Header.{header_bytes}
 use Rattle.mj_layout.specs.declared.Header.{Header}
 use Rattle.mj_entry.specs.Entry.{entry_bytes, entry_length}
-use Rattle.mj_journaler.specs.Journal.{Journal, Offer, Flush, Head, Removal, layout_of, end_of, unsafe_of, window_of, flush_end}
-use Rattle.mj_journaler.specs.Outstanding.{lowest, without, without_head, live_after, without_removal, last_end, ends_above, first_set, trimmed_of}
+use Rattle.mj_journaler.specs.Journal.{Journal, layout_of, end_of, unsafe_of, window_of, flush_end, first_set, trimmed_of}
+use Rattle.mj_journaler.specs.Outstanding.{lowest, found, without, last_end, ends_above}
+use Rattle.mj_journaler.specs.declared.sent.Sent.{Sent}
+use Rattle.mj_journaler.specs.declared.sent.Offer.{Offer}
+use Rattle.mj_journaler.specs.declared.sent.Offer.TheVariants.{Flush, Head, Removal}
 use Rattle.mj_journaler.specs.declared.AppendRefusal.{AppendRefusal}
 use Rattle.mj_journaler.specs.declared.AppendRefusal.TheVariants.{Full, Spent}
 
@@ -55,6 +58,9 @@ appended payload j = record j {
   room = j.room - entry_length payload;
 }
 
+abbrev pub reserved : ℕ → Journal → Journal
+reserved bytes j = record j { room = max j.room bytes }
+
 -- ---- writes of the stream
 
 abbrev pub flush_of : Journal → Option Offer
@@ -97,8 +103,13 @@ taken op (Flush to) j = record j {
   sent = j.sent ++ record { op = op; from = j.flushed; to = to } ∷ [];
   offer = None;
 }
-taken op (Head header) j = record j { header = header; heads = j.heads ++ record { op = op; expire = header.expire } ∷ []; offer = None }
-taken op (Removal index) j = record j { removing = index + 1; removals = j.removals ++ record { op = op; index = index } ∷ []; offer = None }
+taken op (Head header) j = record j { header = header; heads = j.heads ++ record { op = op; from = header.trimmed; to = header.expire } ∷ []; offer = None }
+taken op (Removal index) j = record j { removing = index + 1; removals = j.removals ++ record { op = op; from = index; to = index + 1 } ∷ []; offer = None }
+
+-- what was given is sent with this number
+abbrev pub sent_on : ℕ → Option Offer → Journal → Journal
+sent_on op None j = j
+sent_on op (Some offer) j = taken op offer j
 
 -- ---- acknowledgements
 
@@ -106,12 +117,17 @@ taken op (Removal index) j = record j { removing = index + 1; removals = j.remov
 abbrev pub acked_to : Journal → ℕ → ℕ
 acked_to j op = lowest (without op j.sent) j.flushed
 
+-- the expire of a header
+abbrev pub expire_of : Option Sent → ℕ → ℕ
+expire_of None live = live
+expire_of (Some h) live = h.to
+
 abbrev pub acknowledged : ℕ → Journal → Journal
 acknowledged op j = record j {
   safe = last_end j.safe j.ends (acked_to j op);
   ends = ends_above j.ends (acked_to j op);
   sent = without op j.sent;
-  heads = without_head op j.heads;
-  live = live_after op j.heads j.live;
-  removals = without_removal op j.removals;
+  heads = without op j.heads;
+  live = expire_of (found op j.heads) j.live;
+  removals = without op j.removals;
 }

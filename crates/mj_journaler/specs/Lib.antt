@@ -1,5 +1,7 @@
-pub mod Journal
-pub mod Outstanding
-pub mod Calls
-pub mod Keeps
 pub mod Buffered
+pub mod Outstanding
+pub mod Ring
+pub mod Journal
+pub mod Keeps
+pub mod Calls
+pub mod Inside

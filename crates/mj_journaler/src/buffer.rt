@@ -68,6 +68,7 @@ impl Buffer {
         requires { IsPayload payload.now }
         ensures bytes { self.new.bytes ≡ (if is_ok result then self.old.bytes ++ entry_bytes at payload.now else self.old.bytes) }
         ensures room { entry_length payload.now ≤ self.old.room → IsOk result × (self.old.room ≤ self.new.room + entry_length payload.now) }
+        ensures kept { OnErr result (self.old.room ≤ self.new.room) }
     {
         self.reserve(alloc, payload.len() + ENVELOPE)?;
         entry_write(alloc, at, payload, &mut self.last)

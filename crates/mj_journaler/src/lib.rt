@@ -2,7 +2,17 @@
 //! It never calls a store.
 #![tactic(auto)]
 
+ghost use Rattle.std.specs.Prelude.{◌≡◌};
+ghost use Rattle.mj_journaler.specs.declared.AppendRefusal.TheVariants.{Memory as want_of_memory};
+
 mod buffer;
+mod journaler;
+mod ring;
+mod sent;
+
+pub use journaler::{Journaler, LAST_END, MOST_UNSAFE};
+pub use sent::{Offer, Sent};
+use std::alloc::AllocError;
 
 /// Why an entry was not appended.
 #[derive(Clone, Copy, Debug, PartialEq, Eq)]
@@ -20,4 +30,12 @@ pub enum AppendRefusal {
 pub struct Acked {
     pub from: u64,
     pub to: u64,
+}
+
+impl From<AllocError> for AppendRefusal {
+    ghost from_gives = { λ _ e. e ≡ want_of_memory };
+
+    fn from(_: AllocError) -> Self {
+        AppendRefusal::Memory
+    }
 }
