@@ -1,2 +1,11 @@
 pub mod Since
 pub mod Refusals
+pub mod Log
+pub mod Sound
+pub mod Journaled
+pub mod Waiting
+pub mod Request
+pub mod Sending
+pub mod Mount
+pub mod FirstPath
+pub mod Mounts

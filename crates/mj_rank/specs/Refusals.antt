@@ -5,8 +5,10 @@ use Rattle.mj_store.specs.declared.answer.ReadRefusal.TheVariants as read
 use Rattle.mj_store.specs.declared.answer.SubmitRefusal.{SubmitRefusal}
 use Rattle.mj_store.specs.declared.answer.SubmitRefusal.TheVariants as submit
 use Rattle.mj_rank.specs.declared.answers.Fault.{Fault}
+use Rattle.mj_rank.specs.declared.log.AppendRefusal.{AppendRefusal}
+use Rattle.mj_rank.specs.declared.log.AppendRefusal.TheVariants.{Full, Spent}
 use Rattle.mj_rank.specs.declared.refusal.RankRefusal.{RankRefusal}
-use Rattle.mj_rank.specs.declared.refusal.RankRefusal.TheVariants.{Down}
+use Rattle.mj_rank.specs.declared.refusal.RankRefusal.TheVariants.{Down, LogFull, PositionSpent, Memory}
 use Rattle.mj_rank.specs.declared.refusal.MountRefusal.{MountRefusal}
 use Rattle.mj_rank.specs.declared.refusal.MountRefusal.TheVariants as mount
 
@@ -15,10 +17,22 @@ abbrev pub IsDown : Fault → RankRefusal → Type 0
 IsDown fault (Down f sealed) = f ≡ fault
 IsDown fault _ = ⊥
 
+-- the rank keeps this fault, and is down for it
+abbrev pub IsDownFor : Option Fault → RankRefusal → Type 0
+IsDownFor kept (Down f sealed) = kept ≡ Some f
+IsDownFor kept _ = ⊥
+
 -- A rank is down just where it keeps a fault, and says that one.
 abbrev pub IsDownWith : Option Fault → RankRefusal → Type 0
 IsDownWith kept (Down f sealed) = kept ≡ Some f
 IsDownWith kept _ = kept ≡ None
+
+-- It says why an entry does not fit. Want of memory is free.
+abbrev pub SaysOfAppend : RankRefusal → Option AppendRefusal → Type 0
+SaysOfAppend (LogFull bytes sealed) why = why ≡ Some (Full bytes)
+SaysOfAppend (PositionSpent position sealed) why = why ≡ Some (Spent position)
+SaysOfAppend Memory why = Unit {0}
+SaysOfAppend _ why = ⊥
 
 abbrev pub IsStoreFault : MountRefusal → Type 0
 IsStoreFault (mount.Store f) = Unit {0}

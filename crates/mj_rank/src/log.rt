@@ -1,38 +1,36 @@
 //! The journal of a rank that serves: what is appended and not sent, what is on its way, and what is safe.
 
-ghost use Rattle.std.specs.Prelude.{◌≡◌, ◌<◌, ◌≤◌, ◌+◌, ◌^◌, IfOk, OnOk, vec_len};
+ghost use Rattle.std.specs.Prelude.{◌≡◌, ◌<◌, ◌≤◌, ◌+◌, ◌^◌, ◌-◌, [], IfOk, OnOk, IfNone, drop, vec_len};
 ghost use Rattle.std.specs.Vec.{vec_capacity};
-ghost use Rattle.mj_entry.specs.Entry.{IsPayload};
+ghost use Rattle.mj_entry.specs.Entry.{IsPayload, entry_length};
 ghost use Rattle.mj_store.specs.Object.{HasShortKeys};
 
 use mj_base::{Items, ObjectName, OpNo};
 use mj_entry::{ENVELOPE, entry_write};
 use mj_layout::Layout;
 use mj_store::{ObjectAct, ObjectOp};
-use std::alloc::{AllocError, AllocFailed, Global};
+use std::alloc::{AllocError, Global};
 
 /// The most bytes of the journal that may be unsafe at once.
 pub const MOST_UNSAFE: u64 = 8_388_608;
 /// No entry ends above this position.
 pub const LAST_POSITION: u64 = 0x3fff_ffff_ffff_ffff;
 
-/// A write that was sent, on one object. It ends at a position of the journal.
+/// A write that was sent and is not acknowledged, on one object. It begins at a position of the journal.
 #[derive(Clone, Copy)]
 struct Write {
     op: OpNo,
     name: ObjectName,
-    to: u64,
-    done: bool,
+    from: u64,
 }
 
-/// Why an entry is not appended. The log is as before.
-#[derive(Debug, Drop)]
+/// Why an entry does not fit.
+#[derive(Clone, Copy, Debug, PartialEq, Eq)]
 pub enum AppendRefusal {
-    /// This many bytes are unsafe.
+    /// This many bytes are unsafe, and with the entry they would be too many.
     Full(u64),
-    /// The entry would begin here.
+    /// The entry would begin here, and end past the last position.
     Spent(u64),
-    Memory,
 }
 
 #[derive(Drop)]
@@ -51,32 +49,13 @@ pub struct Log {
     ghost in_range: { flushed + vec_len buffer < 2 ^ 62 },
 }
 
-impl From<AllocError> for AppendRefusal {
-    ghost use Rattle.std.specs.Prelude.{◌≡◌};
-    ghost use Rattle.mj_rank.specs.declared.log.AppendRefusal.TheVariants.{Memory};
-
-    ghost from_gives = { λ _ e. e ≡ Memory };
-
-    fn from(_: AllocError) -> Self {
-        AppendRefusal::Memory
-    }
-}
-
-impl<T: Drop> From<AllocFailed<T>> for AppendRefusal {
-    ghost use Rattle.std.specs.Prelude.{◌≡◌};
-    ghost use Rattle.mj_rank.specs.declared.log.AppendRefusal.TheVariants.{Memory};
-
-    ghost from_gives = { λ _ e. e ≡ Memory };
-
-    fn from(_: AllocFailed<T>) -> Self {
-        AppendRefusal::Memory
-    }
-}
-
 impl Log {
+    ghost use Rattle.mj_rank.specs.Log.{log_value, HasRoom, entry_end, with_entry, append_refusal, log_end, unsafe_bytes, flush_end, object_in, write_of, sent, acked, acknowledged, last_end, without_write, oldest_write};
+
     /// Nothing is appended at the tail yet.
     pub fn new(alloc: Global, layout: Layout, ino: u64, tail: u64) -> Log
         requires { tail < 2 ^ 62 }
+        ensures { log_value result ≡ record { layout = layout; ino = ino; bytes = []; safe = tail; flushed = tail; ends = []; writes = [] } }
     {
         Log {
             layout,
@@ -90,7 +69,7 @@ impl Log {
     }
 
     pub fn end(&self) -> u64
-        ensures { result ≡ self.now.flushed + vec_len self.now.buffer }
+        ensures { result ≡ log_end (log_value self.now) }
     {
         self.flushed + self.buffer.len() as u64
     }
@@ -108,37 +87,61 @@ impl Log {
     }
 
     pub fn unsafe_bytes(&self) -> u64
-        ensures { result + self.now.safe ≡ self.now.flushed + vec_len self.now.buffer }
+        ensures { result ≡ unsafe_bytes (log_value self.now) }
     {
         let safe = self.safe;
         self.end() - safe
     }
 
-    /// Puts an entry with this payload at the end, and answers where it ends.
-    pub fn append(&mut self, alloc: Global, payload: &[u8]) -> Result<u64, AppendRefusal>
+    /// Why an entry with this payload does not fit, if it does not.
+    pub fn refusal(&self, payload: &[u8]) -> Option<AppendRefusal>
         requires { IsPayload payload.now }
+        ensures is { result ≡ append_refusal (log_value self.now) payload.now }
+        ensures fits { IfNone result (entry_end (log_value self.now) payload.now < 2 ^ 62) }
     {
         let at = self.end();
         let len = (payload.len() + ENVELOPE) as u64;
         let waiting = self.unsafe_bytes();
         if waiting + len > MOST_UNSAFE {
-            return Err(AppendRefusal::Full(waiting));
+            return Some(AppendRefusal::Full(waiting));
         }
-        let ends = at + len;
-        if ends > LAST_POSITION {
-            return Err(AppendRefusal::Spent(at));
+        if at + len > LAST_POSITION {
+            return Some(AppendRefusal::Spent(at));
         }
-        self.ends.reserve(1)?;
-        entry_write(alloc, at, payload, &mut self.buffer)?;
-        self.ends.push(ends)?;
-        Ok(ends)
+        None
+    }
+
+    /// Takes the memory for an entry with this payload.
+    pub fn reserve_entry(&mut self, payload: &[u8]) -> Result<(), AllocError>
+        requires { IsPayload payload.now }
+        ensures value { log_value self.new ≡ log_value self.old }
+        ensures room { OnOk result (HasRoom payload.now self.new) }
+    {
+        self.buffer.reserve(payload.len() + ENVELOPE)?;
+        self.ends.reserve(1)
+    }
+
+    /// Puts an entry with this payload at the end, and answers where it ends.
+    pub fn append(&mut self, alloc: Global, payload: &[u8]) -> u64
+        requires payload { IsPayload payload.now }
+        requires fits { entry_end (log_value self.old) payload.now < 2 ^ 62 }
+        requires room { HasRoom payload.now self.old }
+        ensures value { log_value self.new ≡ with_entry (log_value self.old) payload.now }
+        ensures end { result ≡ entry_end (log_value self.old) payload.now }
+    {
+        let at = self.end();
+        entry_write(alloc, at, payload, &mut self.buffer).unwrap();
+        let ends = self.end();
+        self.ends.push(ends).unwrap();
+        ends
     }
 
     /// Where the next write ends: at the end of the log, of the stripe unit or of the window of four periods above the safe
     /// position, whichever comes first. It is the flushed position where there is nothing to write.
     pub fn next_to(&self) -> u64
+        ensures is { result ≡ flush_end (log_value self.now) }
         ensures from { self.now.flushed ≤ result }
-        ensures to { result ≤ self.now.flushed + vec_len self.now.buffer }
+        ensures to { result ≤ log_end (log_value self.now) }
     {
         let window = self
             .safe
@@ -153,8 +156,7 @@ impl Log {
     /// Makes the room for `sent`.
     pub fn reserve_write(&mut self) -> Result<(), AllocError>
         ensures room { OnOk result (vec_len self.new.writes < vec_capacity self.new.writes) }
-        ensures flushed { self.new.flushed ≡ self.old.flushed }
-        ensures buffer { self.new.buffer ≡ self.old.buffer }
+        ensures value { log_value self.new ≡ log_value self.old }
     {
         self.writes.reserve(1)
     }
@@ -162,9 +164,10 @@ impl Log {
     /// The write of the bytes up to a position, and the bytes behind them.
     pub fn write_to(&self, alloc: Global, to: u64) -> Result<(ObjectOp, Vec<u8>), AllocError>
         requires from { self.now.flushed ≤ to }
-        requires to { to ≤ self.now.flushed + vec_len self.now.buffer }
+        requires to { to ≤ log_end (log_value self.now) }
         ensures short { IfOk result (λ x. HasShortKeys x.0.act) }
-        ensures rest { IfOk result (λ x. to + vec_len x.1 ≡ self.now.flushed + vec_len self.now.buffer) }
+        ensures op { IfOk result (λ x. x.0 ≡ write_of (log_value self.now) to) }
+        ensures rest { IfOk result (λ x. x.1.items ≡ drop (to - self.now.flushed) self.now.buffer.items) }
     {
         let from = self.flushed;
         let len = (to - from) as usize;
@@ -179,7 +182,9 @@ impl Log {
         Ok((ObjectOp { name, act }, rest))
     }
 
-    fn object_at(&self, position: u64) -> ObjectName {
+    fn object_at(&self, position: u64) -> ObjectName
+        ensures { result ≡ object_in (log_value self.now) position }
+    {
         ObjectName::File {
             ino: self.ino,
             index: self.layout.place(position).index,
@@ -190,67 +195,66 @@ impl Log {
     pub fn sent(&mut self, op: OpNo, to: u64, rest: Vec<u8>)
         requires room { vec_len self.old.writes < vec_capacity self.old.writes }
         requires from { self.old.flushed ≤ to }
-        requires rest { to + vec_len rest ≡ self.old.flushed + vec_len self.old.buffer }
+        requires to { to ≤ log_end (log_value self.old) }
+        requires rest { rest.items ≡ drop (to - self.old.flushed) self.old.buffer.items }
+        ensures { log_value self.new ≡ sent op to (log_value self.old) }
     {
-        let name = self.object_at(self.flushed);
-        let done = false;
-        self.writes.push(Write { op, name, to, done }).unwrap();
+        let from = self.flushed;
+        let name = self.object_at(from);
+        self.writes.push(Write { op, name, from }).unwrap();
         self.buffer = rest;
         self.flushed = to;
     }
 
-    /// An operation is done. The safe position is then the end of the last entry whose bytes, and all before them, are in
-    /// writes that are done.
-    pub fn acked(&mut self, op: OpNo) {
-        for write in self.writes.iter_mut() {
-            if write.op == op {
-                write.done = true;
-            }
-        }
-        let written = self.written();
-        let last = self.last_end(written);
-        self.safe = last;
-        self.writes.retain(|write| write.to > written);
-        let safe = self.safe;
+    /// An operation is acknowledged. The safe position is then the end of the last entry whose bytes, and all before them,
+    /// are acknowledged.
+    pub fn acked(&mut self, op: OpNo)
+        ensures { log_value self.new ≡ acked op (log_value self.old) }
+    {
+        self.forget(op);
+        let safe = self.last_end(self.acknowledged());
+        self.safe = safe;
         self.ends.retain(|ends| *ends > safe);
     }
 
-    // Up to where all bytes are in writes that are done.
-    fn written(&self) -> u64
-        ensures from { self.now.safe ≤ result }
-        ensures to { result ≤ self.now.flushed }
+    // The write with this number is not on its way any more.
+    fn forget(&mut self, op: OpNo)
+        ensures { log_value self.new ≡ record (log_value self.old) { writes = without_write op (log_value self.old).writes } }
     {
-        let safe = self.safe;
-        let flushed = self.flushed;
-        let mut written = safe;
-        for write in self.writes.iter() {
-            if !write.done {
-                return written;
-            }
-            written = write.to.max(safe).min(flushed);
-        }
-        written
+        self.writes.retain(|write| write.op != op);
     }
 
-    // The last entry's end that is at or below a position, or the safe position.
+    // Up to where all bytes are acknowledged.
+    fn acknowledged(&self) -> u64
+        ensures is { result ≡ acknowledged self.now.flushed self.now.writes.items }
+        ensures within { result ≤ self.now.flushed }
+    {
+        let mut least = self.flushed;
+        for write in self.writes.iter() {
+            least = least.min(write.from);
+        }
+        least
+    }
+
+    // The greatest end of an entry that is not above a position, or the safe position.
     fn last_end(&self, position: u64) -> u64
-        requires { self.now.safe ≤ position }
-        ensures { result ≤ position }
+        requires { position ≤ self.now.flushed }
+        ensures is { result ≡ last_end self.now.safe self.now.ends.items position }
+        ensures within { result ≤ self.now.flushed }
     {
         let mut last = self.safe;
         for ends in self.ends.iter() {
             if *ends <= position {
-                last = *ends;
+                last = last.max(*ends);
             }
         }
         last
     }
 
-    /// The write with the least number that is not done, and its object.
-    pub fn oldest_sent(&self) -> Option<(OpNo, ObjectName)> {
-        self.writes
-            .iter()
-            .find(|write| !write.done)
-            .map(|write| (write.op, write.name))
+    /// The first write that is not acknowledged, and its object.
+    pub fn oldest_sent(&self) -> Option<(OpNo, ObjectName)>
+        ensures { result ≡ oldest_write self.now.writes.items }
+    {
+        self.writes.first().map(|write| (write.op, write.name))
     }
 }

@@ -1,9 +1,10 @@
 //! Why a rank or a mount refuses.
 
-ghost use Rattle.std.specs.Prelude.{◌≡◌};
-ghost use Rattle.mj_rank.specs.Refusals.{IsDown};
+ghost use Rattle.std.specs.Prelude.{◌≡◌, Some};
+ghost use Rattle.mj_rank.specs.Refusals.{IsDown, SaysOfAppend};
 
 use crate::answers::Fault;
+use crate::log::AppendRefusal;
 use mj_base::Damage;
 use mj_store::{ReadRefusal, StoreFault, SubmitRefusal};
 use std::alloc::AllocError;
@@ -40,6 +41,15 @@ impl RankRefusal {
     {
         let Fault { op, faults } = *fault;
         RankRefusal::Down(Fault { op, faults }, Sealed::new())
+    }
+
+    pub(crate) fn of_append(refusal: AppendRefusal) -> RankRefusal
+        ensures { SaysOfAppend result (Some refusal) }
+    {
+        match refusal {
+            AppendRefusal::Full(bytes) => RankRefusal::LogFull(bytes, Sealed::new()),
+            AppendRefusal::Spent(position) => RankRefusal::PositionSpent(position, Sealed::new()),
+        }
     }
 }
 

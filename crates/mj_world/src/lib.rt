@@ -2,5 +2,7 @@
 #![tactic(auto)]
 
 mod answers;
+mod world;
 
 pub use answers::{Said, Step, WorldRefusal};
+pub use world::World;

@@ -1,6 +1,5 @@
-use Rattle.std.proofs.Common.{refl, sym, subst}
-use Rattle.mj_rank.proofs.SinceLemmas.{rank_since_same, rank_since_failed}
-use Rattle.mj_rank.specs.Since.{RankSince}
+use Rattle.std.proofs.Common.{refl}
+use Rattle.mj_rank.proofs.SinceLemmas.{rank_since_same, rank_since_down}
 use Rattle.mj_rank.proofs.rank.Rank.apply.Goals as goal
 
 pub returns-in-Ok-clause-since : goal.returns-in-Ok-clause-since
@@ -8,5 +7,4 @@ returns-in-Ok-clause-since g c = λ base h. rank_since_same base c.args.self.now
 
 pub returns-in-Err-clause-since : goal.returns-in-Err-clause-since
 returns-in-Err-clause-since g c = λ base h.
-    subst (RankSince g.S.ObjectStore.faults g.S.ObjectStore.unreported base) (sym c.goes_down.ensures.fault)
-    (rank_since_failed base c.args.self.now _ _ c.in-Err.ensures.cause.rose c.step.ensures.later c.step.ensures.same_list refl h)
+    rank_since_down base c.args.self.now _ _ _ c.goes_down.ensures.store c.goes_down.ensures.fault c.step.ensures.later h c.in-Err.ensures.cause.rose c.step.ensures.same_list

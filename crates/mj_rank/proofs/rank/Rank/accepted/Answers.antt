@@ -1,0 +1,27 @@
+use Rattle.std.proofs.Common.{subst, sym, ap, ◌∙◌, ◌∷◌, ◌++◌, []}
+use Rattle.std.specs.Prelude.{IsTrue}
+use Rattle.mj_event.specs.Event.{event_bytes}
+use Rattle.mj_tree.specs.State.{PlainState}
+use Rattle.mj_tree.specs.Answer.{answer, reply_of}
+use Rattle.mj_rank.specs.Sound.{is_sound}
+use Rattle.mj_rank.specs.Log.{with_entry, entry_end}
+use Rattle.mj_rank.specs.Request.{value_of}
+use Rattle.mj_rank.proofs.SoundAfter.{sound_after}
+use Rattle.mj_rank.proofs.Requests.{with_event_is, after_is}
+use Rattle.mj_rank.proofs.rank.Rank.accepted.Goals as goal
+
+pub invariant_of-self-2 : goal.invariant_of-self-2
+invariant_of-self-2 g c = record { sound = subst (λ (s : PlainState). IsTrue (is_sound s)) (sym c.in_ok-reply.ensures.ok) (sound_after _ _ c.requires.served c.args.self.now.sound) }
+
+pub returns-clause-reply : goal.returns-clause-reply
+unfolding answer
+returns-clause-reply g c = c.in_ok-reply.ensures.reply ∙ ap reply_of (sym c.requires.decided)
+
+pub returns-clause-after : goal.returns-clause-after
+returns-clause-after g c =
+    let payload = c.deref-3.ensures.value ∙ c.in_ok-payload.ensures in
+    with_event_is (value_of c.args.self.now) c.args.r.now c.args.outcome.now (event_bytes c.args.event.now)
+    (c.append-ends.ensures.value ∙ (λ i. with_entry (c.in_ok-reserve_entry.ensures.value i) (payload i)))
+    (c.in_ok-reply.ensures.ok ∙ after_is _ _ _ c.requires.decided)
+    c.version_after-self.ensures
+    (c.add.ensures ∙ (λ i. c.in_ok-reserve.ensures.items i ++ record { client = c.args.r.now.client; tid = c.args.r.now.tid; ends = (c.append-ends.ensures.end ∙ (λ j. entry_end (c.in_ok-reserve_entry.ensures.value j) (payload j))) i } ∷ []))
