@@ -3,3 +3,5 @@ pub mod DigitsLemmas
 pub mod ScriptLemmas
 pub mod TextLemmas
 pub mod ObjectLemmas
+pub mod WordLemmas
+pub mod SpellingLemmas

@@ -4,3 +4,4 @@ pub mod Object
 pub mod Line
 pub mod Script
 pub mod Text
+pub mod Spelling

@@ -1,5 +1,5 @@
 -- The lines of a script: the words of each, and what they stand for.
-use Rattle.std.specs.Prelude.{ℕ, ◌-◌, ◌^◌, Bool, ◌==◌, List, [], ◌∷◌, codes, if◌then◌else◌, Option, None, Some, option_map, Result, Ok}
+use Rattle.std.specs.Prelude.{◌≡◌, ℕ, ◌-◌, ◌^◌, Bool, ◌==◌, List, [], ◌∷◌, codes, if◌then◌else◌, Option, None, Some, option_map, Result, Ok, IsTrue}
 use Rattle.std.specs.List.{list_all}
 use Rattle.std.specs.Char.{is_ascii}
 use Rattle.mj_base.specs.InOrder.{same_bytes}
@@ -8,9 +8,11 @@ use Rattle.mj_base.specs.declared.path.PathRefusal.{PathRefusal}
 use Rattle.mj_tree.specs.declared.request.Op.{Op}
 use Rattle.mj_tree.specs.declared.request.Op.TheVariants.{SessionOpen, Mkdir}
 use Rattle.mj_tree.specs.declared.request.ClientRequest.{ClientRequest}
+use Rattle.mj_tree.specs.Request.{op_fits}
+use Rattle.mj_rank.specs.Journaled.{is_served, IsServedRequest}
 use Rattle.mj_lines.specs.declared.line.Line.{Line}
 use Rattle.mj_lines.specs.declared.line.Line.TheVariants as line
-use Rattle.mj_world.specs.declared.answers.Step.TheVariants.{Apply, Ask, Flush, Reap, Restart, Tree}
+use Rattle.mj_world.specs.declared.answers.Step.TheVariants.{Apply, Ask, Begin, Carry, Flush, Reap, Restart, Tree}
 use Rattle.mj_lines.specs.Words.{words_of, ◌>>=◌, field, last}
 use Rattle.mj_lines.specs.Object.{object_of}
 use Rattle.mj_lines.specs.Number.{number_of, mode_of}
@@ -74,3 +76,14 @@ is_blank (b ∷ text) = b == 35
 -- the line that a text stands for, if it is one
 abbrev pub line_of : List ℕ → Option Line
 line_of text = if list_all is_ascii text then (if is_blank text then Some line.Blank else of_words (words_of text)) else None
+
+-- the limits of an operation are kept, and it is one that is served
+abbrev pub IsServedOp : Op → Type 0
+IsServedOp op = IsTrue (op_fits op) × IsTrue (is_served op)
+
+-- Whether the script may have this line: a mount begins and goes on by one line alone, and replies are forgotten by no request.
+abbrev pub IsServed : Line → Type 0
+IsServed (line.One (Ask r)) = (r.oldest ≡ 1) × IsServedRequest r
+IsServed (line.One Begin) = ⊥
+IsServed (line.One Carry) = ⊥
+IsServed _ = Unit {0}

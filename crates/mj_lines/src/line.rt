@@ -1,8 +1,8 @@
 //! The lines of a script.
 
-ghost use Rattle.std.specs.Prelude.{◌≡◌, IfOk};
+ghost use Rattle.std.specs.Prelude.{◌≡◌, IfOk, IfSome};
 ghost use Rattle.mj_lines.specs.Line.{line_of};
-ghost use Rattle.mj_lines.specs.Line.{of_words, is_blank, step_of};
+ghost use Rattle.mj_lines.specs.Line.{of_words, is_blank, step_of, IsServed};
 
 use crate::request::read_request;
 use crate::words::{Words, is_all_ascii, is_word, last};
@@ -22,7 +22,8 @@ pub enum Line {
 
 /// The line that a text spells: none where it is outside the grammar.
 pub fn read_line(alloc: Global, text: &[u8]) -> Result<Option<Line>, AllocError>
-    ensures { IfOk result (λ line. line ≡ line_of text.now) }
+    ensures line { IfOk result (λ line. line ≡ line_of text.now) }
+    ensures served { IfOk result (λ line. IfSome line IsServed) }
 {
     if !is_all_ascii(text) {
         return Ok(None);
@@ -43,7 +44,8 @@ fn is_blank(text: &[u8]) -> bool
 }
 
 fn read_words(alloc: Global, mut words: Words) -> Result<Option<Line>, AllocError>
-    ensures { IfOk result (λ line. line ≡ of_words words.entry) }
+    ensures line { IfOk result (λ line. line ≡ of_words words.entry) }
+    ensures served { IfOk result (λ line. IfSome line IsServed) }
 {
     let Some(word) = words.next() else {
         return Ok(None);
@@ -76,7 +78,8 @@ fn read_words(alloc: Global, mut words: Words) -> Result<Option<Line>, AllocErro
 }
 
 fn read_step(words: &mut Words) -> Option<Line>
-    ensures { result ≡ step_of words.old }
+    ensures line { result ≡ step_of words.old }
+    ensures served { IfSome result IsServed }
 {
     let name = words.object()?;
     last(Line::One(Step::Apply(name)), words)

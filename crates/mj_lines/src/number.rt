@@ -1,6 +1,6 @@
 //! Numbers and modes, as they stand in a line.
 
-ghost use Rattle.std.specs.Prelude.{◌≡◌, ◌≤◌};
+ghost use Rattle.std.specs.Prelude.{◌≡◌, ◌≤◌, IfSome};
 ghost use Rattle.mj_lines.specs.Number.{number_of, mode_of, digits_in};
 
 /// The number that a word spells: decimal, without a leading zero, and at most `most`.
@@ -18,7 +18,8 @@ pub fn read_number(word: &[u8], most: u64) -> Option<u64>
 
 /// The mode that a word spells: three or four octal digits.
 pub fn read_mode(word: &[u8]) -> Option<u16>
-    ensures { result ≡ mode_of word.now }
+    ensures mode { result ≡ mode_of word.now }
+    ensures small { IfSome result (λ mode. mode ≤ 0o7777) }
 {
     if word.len() != 3 && word.len() != 4 {
         return None;

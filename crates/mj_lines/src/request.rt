@@ -1,7 +1,8 @@
 //! Requests of clients, as they stand in a line.
 
-ghost use Rattle.std.specs.Prelude.{◌≡◌, IfOk};
-ghost use Rattle.mj_lines.specs.Line.{request_of, op_of, mkdir_of, path_in};
+ghost use Rattle.std.specs.Prelude.{◌≡◌, length, IfOk, IfSome};
+ghost use Rattle.mj_lines.specs.Line.{request_of, op_of, mkdir_of, path_in, IsServedOp};
+ghost use Rattle.mj_rank.specs.Journaled.{IsServedRequest};
 
 use crate::words::{Words, is_word, last};
 use mj_base::{ClientId, Path, PathRefusal, Tid};
@@ -10,7 +11,8 @@ use std::alloc::{AllocError, Global};
 
 /// The request that the words spell, from the client's number on.
 pub fn read_request(alloc: Global, words: &mut Words) -> Result<Option<ClientRequest>, AllocError>
-    ensures { IfOk result (λ request. request ≡ request_of words.old) }
+    ensures request { IfOk result (λ request. request ≡ request_of words.old) }
+    ensures served { IfOk result (λ request. IfSome request (λ r. (r.oldest ≡ 1) × IsServedRequest r)) }
 {
     let Some(client) = words.number(u64::from(u32::MAX)) else {
         return Ok(None);
@@ -37,7 +39,8 @@ pub fn read_request(alloc: Global, words: &mut Words) -> Result<Option<ClientReq
 }
 
 fn read_op(alloc: Global, words: &mut Words) -> Result<Option<Op>, AllocError>
-    ensures { IfOk result (λ op. op ≡ op_of words.old) }
+    ensures op { IfOk result (λ op. op ≡ op_of words.old) }
+    ensures served { IfOk result (λ op. IfSome op IsServedOp) }
 {
     let Some(word) = words.next() else {
         return Ok(None);
@@ -52,7 +55,8 @@ fn read_op(alloc: Global, words: &mut Words) -> Result<Option<Op>, AllocError>
 }
 
 fn read_mkdir(alloc: Global, words: &mut Words) -> Result<Option<Op>, AllocError>
-    ensures { IfOk result (λ op. op ≡ mkdir_of words.old) }
+    ensures op { IfOk result (λ op. op ≡ mkdir_of words.old) }
+    ensures served { IfOk result (λ op. IfSome op IsServedOp) }
 {
     let Some(word) = words.next() else {
         return Ok(None);
@@ -68,7 +72,8 @@ fn read_mkdir(alloc: Global, words: &mut Words) -> Result<Option<Op>, AllocError
 
 /// The path of one name that a word spells.
 fn read_path(alloc: Global, word: &[u8]) -> Result<Option<Path>, AllocError>
-    ensures { IfOk result (λ path. path ≡ path_in word.now) }
+    ensures path { IfOk result (λ path. path ≡ path_in word.now) }
+    ensures one { IfOk result (λ path. IfSome path (λ names. length names ≡ 1)) }
 {
     match Path::read(alloc, word) {
         Ok(path) => {

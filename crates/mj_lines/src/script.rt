@@ -1,6 +1,7 @@
 //! Scripts.
 
-ghost use Rattle.std.specs.Prelude.{◌≡◌, IfOk, IfErr, Ok};
+ghost use Rattle.std.specs.Prelude.{◌≡◌, All, IfOk, IfErr, Ok};
+ghost use Rattle.mj_lines.specs.Line.{IsServed};
 ghost use Rattle.mj_lines.specs.Script.{script_of, IsScriptRefusal};
 
 use crate::line::{Line, read_line};
@@ -42,6 +43,7 @@ impl<T: Drop> From<AllocFailed<T>> for ScriptRefusal {
 
 /// The lines of a script, each ended by a line feed.
 pub fn read_script(alloc: Global, bytes: &[u8]) -> Result<Vec<Line>, ScriptRefusal>
+    ensures served { IfOk result (λ lines. All IsServed lines.items) }
     ensures lines { IfOk result (λ lines. script_of bytes.now ≡ Ok lines.items) }
     ensures refused { IfErr result (λ why. IsScriptRefusal why bytes.now) }
 {

@@ -63,7 +63,8 @@ impl<'a> Words<'a> {
 
     /// The oldest number of a client's requests: 1.
     pub fn oldest(&mut self) -> Option<u64>
-        ensures { MatchOption result (field oldest_in self.old ≡ None) (λ n. field oldest_in self.old ≡ Some (n, self.new)) }
+        ensures oldest { MatchOption result (field oldest_in self.old ≡ None) (λ n. field oldest_in self.old ≡ Some (n, self.new)) }
+        ensures one { IfSome result (λ n. n ≡ 1) }
     {
         if is_word(self.next()?, "1") {
             Some(1)
@@ -74,7 +75,8 @@ impl<'a> Words<'a> {
 
     /// The mode that the next word spells.
     pub fn mode(&mut self) -> Option<u16>
-        ensures { MatchOption result (field mode_of self.old ≡ None) (λ n. field mode_of self.old ≡ Some (n, self.new)) }
+        ensures mode { MatchOption result (field mode_of self.old ≡ None) (λ n. field mode_of self.old ≡ Some (n, self.new)) }
+        ensures small { IfSome result (λ mode. mode ≤ 0o7777) }
     {
         read_mode(self.next()?)
     }

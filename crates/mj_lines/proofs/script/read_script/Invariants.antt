@@ -1,10 +1,15 @@
 use Rattle.std.proofs.Common.{◌≡◌, ◌+◌, ◌==◌, length, vec_len}
 use Rattle.std.specs.List.{slice_split}
+use Rattle.std.specs.List.{All}
+use Rattle.mj_lines.specs.Line.{IsServed}
 use Rattle.mj_lines.specs.Script.{before, lines_from}
 use Rattle.mj_lines.proofs.script.read_script.Given as goal
 
 abbrev pub invariant-lines : goal.invariant-lines
-invariant-lines l = lines_from 1 (slice_split (λ b. b == 10) l.bytes) ≡ before l.lines.items (lines_from (vec_len l.lines + 1) (slice_split (λ b. b == 10) l.rest))
+invariant-lines l = record {
+  read : lines_from 1 (slice_split (λ b. b == 10) l.bytes) ≡ before l.lines.items (lines_from (vec_len l.lines + 1) (slice_split (λ b. b == 10) l.rest));
+  served : All IsServed l.lines.items;
+}
 
 abbrev pub decreases-lines : goal.decreases-lines
 decreases-lines l = length l.rest
