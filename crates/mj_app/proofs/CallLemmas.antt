@@ -1,0 +1,182 @@
+-- What a call says, by its status.
+use Rattle.std.proofs.Common.{◌≡◌, ℕ, ◌≤◌, inl, inr, cond, eqb, List, [], length, Option, Some, None, IsSomeAnd, String, Ok, Err, refl, sym, ap, subst, ◌∙◌, arith, append-nil}
+use Rattle.std.specs.Global.{Global}
+use Rattle.mj_base.specs.Counts.{Rose}
+use Rattle.mj_base.specs.Sink.{then_taken}
+use Rattle.mj_base.specs.Files.{FilesByName}
+use Rattle.mj_base.specs.declared.files.TheConstants.{MAX_FILE_BYTES}
+use Rattle.mj_lines.specs.Script.{script_of}
+use Rattle.mj_lines.specs.declared.line.Line.{Line}
+use Rattle.mj_app.specs.declared.read.ReadRefusal.{ReadRefusal}
+use Rattle.mj_app.specs.declared.read.ReadRefusal.TheVariants as read
+use Rattle.mj_app.specs.declared.status.Status.{Status}
+use Rattle.mj_app.specs.declared.status.Status.TheVariants.{Done, Damage, Words, Memory, Store, Files, Grammar, Sink}
+use Rattle.mj_app.specs.Status.{code_of}
+use Rattle.mj_app.specs.Read.{script_file, IsScript, IsReadRefusal}
+use Rattle.mj_app.specs.Run.{SinkState, TookNone, TookOrFailed, FailsToStart, StartSays, RunSays, PlaySays}
+use Rattle.mj_app.specs.Say.{HasFixedText}
+use Rattle.mj_app.specs.Call.{FilesState, status_of, EndsWith, TellsMissing, TellsLong, TellsOutside, EndSays, IsExact, RefusalEnds, CallSays}
+use Rattle.mj_app.proofs.RunLemmas.{took_nothing}
+
+-- ---- codes
+
+-- the status with this code
+status_at : ℕ → Status
+status_at n = cond (eqb n 0) Done (cond (eqb n 1) Damage (cond (eqb n 2) Words (cond (eqb n 4) Memory (cond (eqb n 5) Store (cond (eqb n 6) Files (cond (eqb n 7) Grammar Sink))))))
+
+status_at-code : (s : Status) → status_at (code_of s) ≡ s
+unfolding status_at
+status_at-code Done = refl
+status_at-code Damage = refl
+status_at-code Words = refl
+status_at-code Memory = refl
+status_at-code Store = refl
+status_at-code Files = refl
+status_at-code Grammar = refl
+status_at-code Sink = refl
+
+same_status : (s t : Status) → code_of s ≡ code_of t → s ≡ t
+same_status s t e = sym (status_at-code s) ∙ ap status_at e ∙ status_at-code t
+
+-- ---- a play
+
+raised : (base before now : ℕ) → base ≤ before → Rose before now → Rose base now
+raised base before now le rose = omega arith
+
+pub starts_badly : (s : Status) (lines : List Line) (faults now : ℕ) (old new : SinkState) → faults ≡ now → old.faults ≤ new.faults → StartSays s faults old new → PlaySays s lines now old new
+starts_badly Done lines faults now old new e later h = absurd h
+starts_badly Damage lines faults now old new e later h = absurd h
+starts_badly Words lines faults now old new e later h = absurd h
+starts_badly Memory lines faults now old new e later h = record { answers = []; says = record { said = tt; text = took_nothing old new h; later = later } }
+starts_badly Store lines faults now old new e later h = inr (subst (λ n. FailsToStart n old new) e h)
+starts_badly Files lines faults now old new e later h = absurd h
+starts_badly Grammar lines faults now old new e later h = absurd h
+starts_badly Sink lines faults now old new e later h = absurd h
+
+pub runs : (s : Status) (lines : List Line) (faults : ℕ) (old new : SinkState) → RunSays s lines old new → PlaySays s lines faults old new
+runs Done lines faults old new h = h
+runs Damage lines faults old new h = h
+runs Words lines faults old new h = h
+runs Memory lines faults old new h = h
+runs Store lines faults old new h = inl h
+runs Files lines faults old new h = h
+runs Grammar lines faults old new h = h
+runs Sink lines faults old new h = h
+
+module _ {S : Type 0} (faults : S → ℕ) (words : List (String Global)) (files files_after : FilesState) (old new : SinkState) where
+  pub played : (s : Status) (lines : List Line) (store store_after : S) → IsScript files.told words lines → PlaySays s lines (faults store_after) old new → (s ≡ Store → Rose (faults store) (faults store_after)) → EndSays faults words files files_after store store_after old new s
+  played Done lines store store_after script h rose = (lines, script, h)
+  played Damage lines store store_after script h rose = (lines, script, h)
+  played Words lines store store_after script h rose = absurd h
+  played Memory lines store store_after script h rose = inr (lines, script, h)
+  played Store lines store store_after script h rose = (rose refl, (lines, script, h))
+  played Files lines store store_after script h rose = absurd h
+  played Grammar lines store store_after script h rose = absurd h
+  played Sink lines store store_after script h rose = (raised old.faults h.middle.faults new.faults h.says.later h.ends.1.rose, (lines, script, h))
+
+  -- ---- a refusal
+
+  pub refused : (s : Status) (why : ReadRefusal) (store : S) → IsReadRefusal files.told files.faults files_after.faults words why → RefusalEnds why old new s → EndSays faults words files files_after store store old new s
+  refused s why store h (inr e) = subst (EndSays faults words files files_after store store old new) (sym e.0) (inl e.1)
+  refused s read.Words store h (inl e) = subst (EndSays faults words files files_after store store old new) (sym e.0) (h, (read.Words, refl, h, e.1), refl)
+  refused s read.FileMissing store h (inl e) = subst (EndSays faults words files files_after store store old new) (sym e.0) (inl h, (read.FileMissing, refl, h, e.1), refl)
+  refused s (read.FileTooLong n) store h (inl e) = subst (EndSays faults words files files_after store store old new) (sym e.0) (inr (inl (n, h)), (read.FileTooLong n, refl, h, e.1), refl)
+  refused s read.FileFault store h (inl e) = subst (EndSays faults words files files_after store store old new) (sym e.0) (inr (inr h), (read.FileFault, refl, h, e.1), refl)
+  refused s (read.BadLine n) store h (inl e) = subst (EndSays faults words files files_after store store old new) (sym e.0) ((n, h), (read.BadLine n, refl, h, e.1), refl)
+  refused s read.Memory store h (inl e) = subst (EndSays faults words files files_after store store old new) (sym e.0) (inl (by e.1))
+    where
+      nothing : (o : Option (List ℕ)) → then_taken [] o ≡ o
+      nothing None = refl
+      nothing (Some t) = ap Some (append-nil t)
+
+      by : TookOrFailed [] old new → TookNone old new
+      by (inl took) = took ∙ nothing old.taken
+      by (inr failed) = absurd (omega (arith, failed.front.short))
+
+  -- ---- a call
+
+  pub call_says : (s : Status) (store store_after : S) (code : ℕ) → code ≡ code_of s → EndSays faults words files files_after store store_after old new s → IsExact words files files_after s → CallSays faults words files files_after store store_after old new code
+  call_says s store store_after code is h exact = let at : (t : Status) → code ≡ code_of t → EndSays faults words files files_after store store_after old new t = λ t e. subst (EndSays faults words files files_after store store_after old new) (same_status s t (sym is ∙ e)) h in record {
+    done = at Done;
+    damage = at Damage;
+    words = (λ e. (at Words e).0, λ e. is ∙ ap code_of (exact.words e));
+    words_text = λ e. (at Words e).1;
+    memory = at Memory;
+    store = λ e. (at Store e).0;
+    store_text = λ e. (at Store e).1;
+    files = λ e. (at Files e).0;
+    files_text = λ e. (at Files e).1;
+    missing = subst (TellsMissing words files files_after) (sym is) exact.missing;
+    long = subst (TellsLong words files files_after) (sym is) exact.long;
+    outside = λ e. (at Grammar e).0;
+    outside_text = λ e. (at Grammar e).1;
+    found = subst (TellsOutside words files files_after) (sym is) exact.outside;
+    sink = λ e. (at Sink e).0;
+    cut = λ e. (at Sink e).1;
+    untouched = λ before. elim before [ inl e ↦ (at Words e).2 | inr rest ↦ elim rest [ inl e ↦ (at Files e).2 | inr e ↦ (at Grammar e).2 ] ];
+    known = (s, is);
+  }
+
+-- ---- what must be told
+
+-- the bytes that a name holds are those that were read
+same_bytes : (held : FilesByName) (words : List (String Global)) (bytes : List ℕ) (name other : List ℕ) → script_file words ≡ Some name → held name ≡ Some bytes → script_file words ≡ Some other → held other ≡ Some bytes
+same_bytes held words bytes name other a b c = let same : name ≡ other = cc in subst (λ n. held n ≡ Some bytes) same b
+
+pub read_exact : (words : List (String Global)) (files files_after : FilesState) (s : Status) (lines : List Line) → IsScript files.told words lines → IsExact words files files_after s
+read_exact words files files_after s lines script =
+    let named = script.named in
+    record {
+      words = λ e. absurd (let h = named.served in cc);
+      missing = λ held told name served none. absurd (let h = same_bytes held words script.bytes named.name name named.served (named.file held told) served in cc);
+      long = λ held told name bytes served is many. absurd (let h = same_bytes held words script.bytes named.name name named.served (named.file held told) served in let same : script.bytes ≡ bytes = cc in many (subst (λ b. length b ≤ MAX_FILE_BYTES) same named.fits));
+      outside = λ held told name bytes n served is fits bad. absurd (let h = same_bytes held words script.bytes named.name name named.served (named.file held told) served in let same : script.bytes ≡ bytes = cc in let both : Err n ≡ Ok lines = sym bad ∙ ap script_of (sym same) ∙ script.script in cc);
+    }
+
+module _ (words : List (String Global)) (files files_after : FilesState) where
+  tells_missing : (why : ReadRefusal) (held : FilesByName) (name : List ℕ) → IsReadRefusal files.told files.faults files_after.faults words why → files.told ≡ Some held → script_file words ≡ Some name → held name ≡ None → EndsWith 6 (code_of (status_of why)) files files_after
+  tells_missing read.Words held name h told served none = absurd cc
+  tells_missing read.FileMissing held name h told served none = inl refl
+  tells_missing (read.FileTooLong n) held name h told served none = inl refl
+  tells_missing read.FileFault held name h told served none = inl refl
+  tells_missing (read.BadLine n) held name h told served none = absurd (let e = same_bytes held words h.bytes h.named.name name h.named.served (h.named.file held told) served in cc)
+  tells_missing read.Memory held name h told served none = inr (inl refl)
+
+  tells_long : (why : ReadRefusal) (held : FilesByName) (name bytes : List ℕ) → IsReadRefusal files.told files.faults files_after.faults words why → files.told ≡ Some held → script_file words ≡ Some name → held name ≡ Some bytes → (length bytes ≤ MAX_FILE_BYTES → ⊥) → EndsWith 6 (code_of (status_of why)) files files_after
+  tells_long read.Words held name bytes h told served is many = absurd cc
+  tells_long read.FileMissing held name bytes h told served is many = inl refl
+  tells_long (read.FileTooLong n) held name bytes h told served is many = inl refl
+  tells_long read.FileFault held name bytes h told served is many = inl refl
+  tells_long (read.BadLine n) held name bytes h told served is many =
+      let e = same_bytes held words h.bytes h.named.name name h.named.served (h.named.file held told) served in
+      let same : h.bytes ≡ bytes = cc in
+      absurd (many (subst (λ b. length b ≤ MAX_FILE_BYTES) same h.named.fits))
+  tells_long read.Memory held name bytes h told served is many = inr (inl refl)
+
+  -- the length that is too great is that of the bytes
+  too_long : (o : Option (List ℕ)) (bytes : List ℕ) (n : ℕ) → o ≡ Some bytes → IsSomeAnd o (λ b. n ≡ length b) → n ≡ length bytes
+  too_long o bytes n e h = subst (λ x. IsSomeAnd x (λ b. n ≡ length b)) e h
+
+  tells_outside : (why : ReadRefusal) (held : FilesByName) (name bytes : List ℕ) (n : ℕ) → IsReadRefusal files.told files.faults files_after.faults words why → files.told ≡ Some held → script_file words ≡ Some name → held name ≡ Some bytes → length bytes ≤ MAX_FILE_BYTES → script_of bytes ≡ Err n → EndsWith 7 (code_of (status_of why)) files files_after
+  tells_outside read.Words held name bytes n h told served is fits bad = absurd cc
+  tells_outside read.FileMissing held name bytes n h told served is fits bad = absurd (let same : h.name ≡ name = let a = h.served in cc in let none = subst (λ x. held x ≡ None) same (h.file held told) in cc)
+  tells_outside (read.FileTooLong m) held name bytes n h told served is fits bad =
+      let same : h.name ≡ name = let a = h.served in cc in
+      let len = too_long (held name) bytes m is (subst (λ x. IsSomeAnd (held x) (λ b. m ≡ length b)) same (h.file held told)) in
+      absurd (omega (arith, len, h.limit, fits))
+  tells_outside read.FileFault held name bytes n h told served is fits bad = inr (inr h)
+  tells_outside (read.BadLine m) held name bytes n h told served is fits bad = inl refl
+  tells_outside read.Memory held name bytes n h told served is fits bad = inr (inl refl)
+
+  -- want of memory may come in place of a text
+  or_memory : (code : ℕ) (s : Status) (why : ReadRefusal) (old new : SinkState) → RefusalEnds why old new s → EndsWith code (code_of (status_of why)) files files_after → EndsWith code (code_of s) files files_after
+  or_memory code s why old new (inl e) h = subst (λ t. EndsWith code (code_of t) files files_after) (sym e.0) h
+  or_memory code s why old new (inr e) h = inr (inl (ap code_of e.0))
+
+  pub refusal_exact : (s : Status) (why : ReadRefusal) (old new : SinkState) → IsReadRefusal files.told files.faults files_after.faults words why → RefusalEnds why old new s → (script_file words ≡ None → why ≡ read.Words) → (HasFixedText why → s ≡ status_of why) → IsExact words files files_after s
+  refusal_exact s why old new h ends unserved fixed = record {
+    words = λ none. fixed (subst HasFixedText (sym (unserved none)) tt) ∙ ap status_of (unserved none);
+    missing = λ held told name served none. or_memory 6 s why old new ends (tells_missing why held name h told served none);
+    long = λ held told name bytes served is many. or_memory 6 s why old new ends (tells_long why held name bytes h told served is many);
+    outside = λ held told name bytes n served is fits bad. or_memory 7 s why old new ends (tells_outside why held name bytes n h told served is fits bad);
+  }

@@ -1,0 +1,15 @@
+use Rattle.std.proofs.Common.{ℕ, ◌+◌, ◌*◌, Option, None, Some}
+use Rattle.mj_world.specs.World.{WorldSince}
+use Rattle.mj_world.specs.Steps.{left}
+use Rattle.mj_app.proofs.mount.carry_on.Given as goal
+
+abbrev pub invariant-carries : goal.invariant-carries
+invariant-carries g l = (base : ℕ) → WorldSince g.S.ObjectStore.faults g.S.ObjectStore.unreported base l.fn.world → WorldSince g.S.ObjectStore.faults g.S.ObjectStore.unreported base l.world
+
+-- whether the store is still to try the oldest operation
+abbrev pub to_try : Option ℕ → ℕ
+to_try None = 1
+to_try (Some op) = 0
+
+abbrev pub decreases-carries : goal.decreases-carries
+decreases-carries g l = 2 * left l.world + to_try l.tried

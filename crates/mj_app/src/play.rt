@@ -1,0 +1,71 @@
+//! The run of a script.
+
+ghost use Rattle.std.specs.Prelude.{◌≡◌, ◌≤◌, ℕ, [], All};
+ghost use Rattle.mj_base.specs.Counts.{Rose};
+ghost use Rattle.mj_lines.specs.Line.{IsServed};
+ghost use Rattle.mj_app.specs.Run.{sink_state, StartSays, RunSays, PlaySays};
+
+use crate::line::{run_line, say_answer};
+use crate::status::Status;
+use mj_base::{RankNo, Sink};
+use mj_lines::{Answer, Line};
+use mj_store::ObjectStore;
+use mj_world::World;
+use std::alloc::Global;
+
+/// Runs the lines of a script over a store that is first restarted.
+pub fn play<S: ObjectStore, K: Sink>(
+    alloc: Global,
+    lines: &[Line],
+    mut store: S,
+    out: &mut K,
+) -> (Status, S)
+    requires { All IsServed lines.now }
+    ensures says { PlaySays result.0 lines.now (S.faults result.1) (sink_state K.taken K.faults out.old) (sink_state K.taken K.faults out.new) }
+    ensures store { result.0 ≡ Status.Store → Rose (S.faults store) (S.faults result.1) }
+    ensures later { K.faults out.old ≤ K.faults out.new }
+{
+    match store.restart() {
+        Ok(()) => play_restarted(alloc, lines, store, out),
+        Err(fault) => {
+            let status = fail_to_start(alloc, fault.faults, out);
+            (status, store)
+        }
+    }
+}
+
+fn play_restarted<S: ObjectStore, K: Sink>(
+    alloc: Global,
+    lines: &[Line],
+    store: S,
+    out: &mut K,
+) -> (Status, S)
+    requires served { All IsServed lines.now }
+    requires restarted { S.unreported store ≡ [] }
+    ensures says { RunSays result.0 lines.now (sink_state K.taken K.faults out.old) (sink_state K.taken K.faults out.new) }
+    ensures store { result.0 ≡ Status.Store → (base : ℕ) → base ≤ S.faults store → Rose base (S.faults result.1) }
+    ensures later { K.faults out.old ≤ K.faults out.new }
+{
+    let Some(rank) = RankNo::new(0) else {
+        unreachable!()
+    };
+    let mut world = World::new(store, rank);
+    for (i, line) in lines.iter().enumerate() {
+        match run_line(alloc, &mut world, i as u64 + 1, line, out) {
+            Ok(()) => {}
+            Err(status) => return (status, world.into_store()),
+        }
+    }
+    (Status::Done, world.into_store())
+}
+
+// The restart before the first line has the number 0.
+fn fail_to_start<K: Sink>(alloc: Global, faults: u64, out: &mut K) -> Status
+    ensures says { StartSays result faults (sink_state K.taken K.faults out.old) (sink_state K.taken K.faults out.new) }
+    ensures later { K.faults out.old ≤ K.faults out.new }
+{
+    match say_answer(alloc, 0, &Answer::StoreFault(faults), out) {
+        Ok(()) => Status::Store,
+        Err(status) => status,
+    }
+}

@@ -1,0 +1,41 @@
+//! How a call ends.
+
+ghost use Rattle.std.specs.Prelude.{◌≡◌};
+ghost use Rattle.mj_app.specs.Status.{code_of};
+
+/// How a call ends. The program exits with its code.
+#[derive(Clone, Copy, Debug, PartialEq, Eq)]
+pub enum Status {
+    /// Every line was worked, and all text was taken.
+    Done,
+    /// Damage was named.
+    Damage,
+    /// The words are not served.
+    Words,
+    Memory,
+    /// The store failed.
+    Store,
+    /// A named file is missing or too long, or the files failed.
+    Files,
+    /// A line of the script is outside the grammar.
+    Grammar,
+    /// The sink failed.
+    Sink,
+}
+
+impl Status {
+    pub fn code(self) -> u8
+        ensures { result ≡ code_of self }
+    {
+        match self {
+            Status::Done => 0,
+            Status::Damage => 1,
+            Status::Words => 2,
+            Status::Memory => 4,
+            Status::Store => 5,
+            Status::Files => 6,
+            Status::Grammar => 7,
+            Status::Sink => 8,
+        }
+    }
+}
