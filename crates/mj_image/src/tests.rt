@@ -72,3 +72,54 @@ fn other_bytes_are_refused(rt: HostRuntime) -> Result<(), Fail> {
     }
     Ok(())
 }
+
+// What a prefix of the two objects is cut in: the beginning of that field, 0 for the magic.
+const CUT: [u8; 92] = [
+    0, 0, 0, 0, 0, 0, 0, 0, 8, 8, 8, 8, 12, 12, 14, 14, 14, 14, 14, 14, 14, 14, 14, 14, 14, 14, 26,
+    26, 26, 26, 26, 26, 26, 26, 34, 34, 34, 37, 38, 38, 38, 38, 42, 42, 44, 44, 44, 44, 44, 44, 44,
+    44, 44, 44, 44, 44, 44, 44, 44, 59, 59, 59, 59, 59, 59, 59, 59, 67, 68, 68, 68, 68, 72, 73, 73,
+    73, 73, 77, 77, 79, 80, 80, 80, 80, 84, 85, 85, 87, 88, 88, 88, 88,
+];
+
+// What is wrong once each bit of a byte is turned: the magic, a field that is cut, a name, an order, a flag, or nothing; and where.
+const TURNED: &[u8; 92] =
+    b"MMMMMMMMTTTTTTNNNNNNNNNNNNTTTTTTTT...FOOOOTTNNNNNNNNNNNNNNNTTTTTTTTFTTTT.TTTTTTOTTTT.TT.TTTT";
+
+const TURNED_AT: [u8; 92] = [
+    0, 0, 0, 0, 0, 0, 0, 0, 92, 92, 92, 92, 14, 14, 14, 14, 14, 14, 14, 14, 14, 14, 14, 14, 14, 14,
+    34, 34, 34, 34, 34, 34, 34, 34, 0, 0, 0, 37, 65, 65, 65, 65, 44, 44, 44, 44, 44, 44, 44, 44,
+    44, 44, 44, 44, 44, 44, 44, 44, 44, 67, 67, 67, 67, 67, 67, 67, 67, 67, 72, 72, 72, 72, 0, 92,
+    92, 92, 92, 79, 79, 87, 84, 84, 84, 84, 0, 87, 87, 0, 92, 92, 92, 92,
+];
+
+fn refusal(kind: u8, at: u8) -> Option<ImageRefusal> {
+    let at = u64::from(at);
+    match kind {
+        b'M' => Some(ImageRefusal::BadMagic),
+        b'T' => Some(ImageRefusal::Truncated(at)),
+        b'N' => Some(ImageRefusal::BadName(at)),
+        b'O' => Some(ImageRefusal::BadOrder(at)),
+        b'F' => Some(ImageRefusal::BadFlag(at)),
+        _ => None,
+    }
+}
+
+#[test]
+fn each_prefix_is_cut_in_its_field(rt: HostRuntime) -> Result<(), Fail> {
+    for (len, at) in CUT.iter().enumerate() {
+        let want = refusal(if *at == 0 { b'M' } else { b'T' }, *at);
+        let found = image_read(rt.alloc(), &TWO[..len]).err();
+        assert_eq!(rt; found, want, "{len} bytes");
+    }
+    Ok(())
+}
+
+#[test]
+fn each_turned_byte_is_told(rt: HostRuntime) -> Result<(), Fail> {
+    for (place, byte) in TWO.iter().enumerate() {
+        let bytes = with_byte(rt.alloc(), TWO, place, *byte ^ 0xff)?;
+        let want = refusal(TURNED[place], TURNED_AT[place]);
+        assert_eq!(rt; image_read(rt.alloc(), &bytes).err(), want, "at {place}");
+    }
+    Ok(())
+}

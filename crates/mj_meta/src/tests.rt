@@ -117,3 +117,44 @@ fn each_fault_is_at_its_field(rt: HostRuntime) -> Result<(), Fail> {
     assert_eq!(rt; stops(rt.alloc(), &bytes, 0)?, Ok(76));
     Ok(())
 }
+
+// Where reading stops once each bit of a byte is turned, and 255 where a blob is left.
+const TURNED_BLOB: [u8; 115] = [
+    115, 115, 115, 115, 255, 255, 255, 255, 255, 86, 86, 86, 12, 255, 255, 255, 255, 255, 255, 255,
+    255, 86, 86, 86, 86, 86, 86, 86, 86, 86, 86, 86, 86, 35, 33, 255, 255, 255, 255, 255, 255, 255,
+    255, 255, 44, 255, 255, 255, 255, 255, 255, 255, 255, 53, 255, 54, 255, 255, 255, 255, 255,
+    255, 255, 255, 255, 255, 255, 255, 255, 255, 255, 255, 255, 255, 255, 255, 255, 255, 255, 255,
+    255, 255, 255, 255, 84, 84, 255, 255, 255, 255, 255, 255, 255, 255, 94, 255, 255, 255, 255,
+    255, 255, 255, 255, 115, 115, 115, 115, 115, 115, 115, 115, 115, 115, 115, 115,
+];
+
+const TURNED_NAMES: [u8; 76] = [
+    76, 76, 76, 76, 255, 255, 255, 255, 255, 255, 255, 255, 12, 36, 36, 36, 36, 76, 76, 76, 76, 76,
+    76, 76, 76, 27, 25, 47, 255, 255, 255, 255, 255, 255, 255, 255, 255, 255, 255, 255, 255, 255,
+    255, 255, 44, 47, 45, 255, 255, 255, 255, 255, 255, 255, 255, 255, 255, 255, 255, 255, 255,
+    255, 255, 255, 64, 67, 65, 255, 255, 255, 255, 255, 255, 255, 255, 255,
+];
+
+fn turned(alloc: Global, bytes: &[u8], place: usize, stop: u8) -> Result<bool, Fail> {
+    let byte = bytes.get(place).copied().unwrap_or(0);
+    let others = changed(alloc, bytes, place, byte ^ 0xff)?;
+    let found = stops(alloc, &others, 0)?;
+    Ok(match found {
+        Ok(behind) => stop == 255 && behind == bytes.len(),
+        Err(at) => at == u64::from(stop),
+    })
+}
+
+#[test]
+fn a_turned_byte_stops_at_its_field(rt: HostRuntime) -> Result<(), Fail> {
+    for (place, stop) in TURNED_BLOB.iter().enumerate() {
+        assert!(rt; turned(rt.alloc(), &BLOB, place, *stop)?, "blob at {place}");
+    }
+    for (place, stop) in TURNED_NAMES.iter().enumerate() {
+        assert!(rt;
+            turned(rt.alloc(), &NAMES, place, *stop)?,
+            "names at {place}"
+        );
+    }
+    Ok(())
+}
