@@ -220,6 +220,36 @@ pub record CanLink (s : PlainState) (q : ℕ × List ℕ) (i : ℕ) : Type 0 whe
   pub no_dir : is_dir s i ≡ false
   pub links : link_count s i < most_links
 
+-- a link ends, and it is no directory's, or that of an empty one
+pub record CanUnlink (s : PlainState) (q : ℕ × List ℕ) (i : ℕ) : Type 0 where
+  pub link : get s.links q ≡ Some i
+  pub empty : (is_dir s i ≡ false) ⊎ (entry_count s i ≡ 0)
+
+-- the places of two paths of which the first is no beginning of the second
+pub record AreAway (s : PlainState) (q r : ℕ × List ℕ) : Type 0 where
+  pub from : Path
+  pub to : Path
+  pub from_is : place s from 22 ≡ Ok q
+  pub to_is : place s to 22 ≡ Ok r
+  pub apart : begins from to ≡ false
+
+-- a name moves to a place where none is, and no directory to one below it
+pub record CanMove (s : PlainState) (q r : ℕ × List ℕ) (i : ℕ) : Type 0 where
+  pub link : get s.links q ≡ Some i
+  pub free : get s.links r ≡ None
+  pub parent : is_dir s r.0 ≡ true
+  pub name : IsTrue (is_name r.1)
+  pub room : (q.0 == r.0) ≡ false → entry_count s r.0 < most_entries
+  pub away : (is_dir s i ≡ false) ⊎ AreAway s q r
+
+-- a name moves to where another inode's is, which has no entries
+pub record CanReplace (s : PlainState) (q r : ℕ × List ℕ) (i j : ℕ) : Type 0 where
+  pub link : get s.links q ≡ Some i
+  pub target : get s.links r ≡ Some j
+  pub other : i ≡ j → ⊥
+  pub empty : entry_count s j ≡ 0
+  pub away : (is_dir s i ≡ false) ⊎ AreAway s q r
+
 abbrev pub Found : PlainState → ClientRequest → Effect → Type 0
 Found s r (Ok (i, Begin q a)) = (i ≡ s.next) × CanBegin s q a
 Found s r (Ok (i, Nothing)) = IsLinked s i
@@ -227,7 +257,9 @@ Found s r (Ok (i, Hold client j)) = (j ≡ i) × (client ≡ r.client) × CanHol
 Found s r (Ok (i, Set j x)) = (j ≡ i) × CanSet s j x
 Found s r (Ok (i, change.Link q j)) = (j ≡ i) × CanLink s q j
 Found s r (Ok (i, change.Release client j)) = (j ≡ i) × (client ≡ r.client) × (is_open s client j ≡ true)
-Found s r (Ok (i, _)) = Unit {0}
+Found s r (Ok (i, change.Unlink q j)) = (j ≡ i) × CanUnlink s q j
+Found s r (Ok (i, change.Move q p j)) = (j ≡ i) × CanMove s q p j
+Found s r (Ok (i, change.Replace q p j k)) = (j ≡ i) × CanReplace s q p j k
 Found s r (Err code) = Unit {0}
 
 record Finds (s : PlainState) (r : ClientRequest) (e : Effect) : Type 0 where
@@ -284,31 +316,46 @@ module _ (s : PlainState) (r : ClientRequest) where
 
   unlink_finds : (path : Path) → Finds s r (unlink s path)
   unfolding unlink
-  unlink_finds path = bind_finds (place s path 21) _ (λ q _. bind_finds (found (get s.links q)) _ (λ i e. refuse_finds (is_dir s i) 21 _ (λ _. record { it = tt })))
+  unlink_finds path = bind_finds (place s path 21) _ (λ q _. bind_finds (found (get s.links q)) _ (λ i e. refuse_finds (is_dir s i) 21 _ (λ h.
+      record { it = (refl, record { link = found_is (get s.links q) i e; empty = inl h }) })))
+
+  none_in : (n : ℕ) → nat_lt 0 n ≡ false → n ≡ 0
+  none_in n e = let le = ltb-false 0 n e in omega (arith, le)
 
   rmdir_finds : (path : Path) → Finds s r (rmdir s path)
   unfolding rmdir
-  rmdir_finds path = bind_finds (place s path 22) _ (λ q _. bind_finds (found (get s.links q)) _ (λ i e. refuse_finds (not (is_dir s i)) 20 _ (λ _. refuse_finds (nat_lt 0 (entry_count s i)) 39 _ (λ _. record { it = tt }))))
+  rmdir_finds path = bind_finds (place s path 22) _ (λ q _. bind_finds (found (get s.links q)) _ (λ i e. refuse_finds (not (is_dir s i)) 20 _ (λ _. refuse_finds (nat_lt 0 (entry_count s i)) 39 _ (λ h.
+      record { it = (refl, record { link = found_is (get s.links q) i e; empty = inr (none_in (entry_count s i) h) }) }))))
 
-  rename_over_finds : (q : ℕ × List ℕ) (i : ℕ) (p : ℕ × List ℕ) (o : Option ℕ) → get s.links q ≡ Some i → Finds s r (rename_over s q i p o)
+  and_none : (a b : Bool) → (not a && b) ≡ false → a ≡ false → b ≡ false
+  and_none true b e h = absurd (false≢true (sym h))
+  and_none false b e h = e
+
+  rename_over_finds : (q : ℕ × List ℕ) (i : ℕ) (p : ℕ × List ℕ) (o : Option ℕ) → get s.links q ≡ Some i → get s.links p ≡ o → is_dir s p.0 ≡ true → IsTrue (is_name p.1) → (is_dir s i ≡ false) ⊎ AreAway s q p → Finds s r (rename_over s q i p o)
   unfolding rename_over
-  rename_over_finds q i p None l = refuse_finds (not (q.0 == p.0) && is_full s p.0) 28 _ (λ _. record { it = tt })
-  rename_over_finds q i p (Some j) l = if_finds (i == j) _ _ (record { it = record { place = q; link = l } }) (λ _. refuse_finds (is_dir s j && not (is_dir s i)) 21 _ (λ _.
-      refuse_finds (is_dir s i && not (is_dir s j)) 20 _ (λ _. refuse_finds (nat_lt 0 (entry_count s j)) 39 _ (λ _. record { it = tt }))))
+  rename_over_finds q i p None l e parent name away = refuse_finds (not (q.0 == p.0) && is_full s p.0) 28 _ (λ g.
+      let room : (q.0 == p.0) ≡ false → entry_count s p.0 < most_entries = λ f. leb-false _ _ (and_none (q.0 == p.0) (is_full s p.0) g f) in
+      record { it = (refl, record { link = l; free = e; parent = parent; name = name; room = room; away = away }) })
+  rename_over_finds q i p (Some j) l e parent name away = if_finds (i == j) _ _ (record { it = record { place = q; link = l } }) (λ f. refuse_finds (is_dir s j && not (is_dir s i)) 21 _ (λ _.
+      refuse_finds (is_dir s i && not (is_dir s j)) 20 _ (λ _. refuse_finds (nat_lt 0 (entry_count s j)) 39 _ (λ g.
+      record { it = (refl, record { link = l; target = e; other = eqb-false i j f; empty = none_in (entry_count s j) g; away = away }) }))))
 
-  rename_finds : (from to : Path) → Finds s r (rename s from to)
+  dir_or_away : (b c : Bool) → (b && c) ≡ false → (b ≡ false) ⊎ (c ≡ false)
+  dir_or_away true c e = inr e
+  dir_or_away false c e = inl refl
+
+  rename_finds : (from to : Path) → IsTrue (is_path to) → Finds s r (rename s from to)
   unfolding rename
-  rename_finds from to = refuse_finds (is_root from || is_root to) 22 _ (λ _. bind_finds (place s from 22) _ (λ q _. bind_finds (found (get s.links q)) _ (λ i e.
-      refuse_finds (is_dir s i && begins from to) 22 _ (λ _. bind_finds (place s to 22) _ (λ p _. rename_over_finds q i p (get s.links p) (found_is (get s.links q) i e))))))
+  rename_finds from to is = refuse_finds (is_root from || is_root to) 22 _ (λ _. bind_finds (place s from 22) _ (λ q f. bind_finds (found (get s.links q)) _ (λ i e.
+      refuse_finds (is_dir s i && begins from to) 22 _ (λ g. bind_finds (place s to 22) _ (λ p h.
+      let there = place_found s to 22 p is h in
+      let away : (is_dir s i ≡ false) ⊎ AreAway s q p = elim (dir_or_away (is_dir s i) (begins from to) g) [ inl no_dir ↦ inl no_dir | inr apart ↦ inr (record { from = from; to = to; from_is = f; to_is = h; apart = apart }) ] in
+      rename_over_finds q i p (get s.links p) (found_is (get s.links q) i e) refl there.0 there.1 away)))))
 
   set_attr_finds : (path : Path) (x : Settings) → x.mode ≤ 0o7777 → x.uid < 2 ^ 32 → x.gid < 2 ^ 32 → x.size < 2 ^ 64 → x.mtime < 2 ^ 64 → Finds s r (set_attr s path x)
   unfolding set_attr
   set_attr_finds path x mode uid gid size mtime = refuse_finds (is_root path) 22 _ (λ h. bind_finds (walk s path) _ (λ i w. refuse_finds (not (x.size == 0) && not (is_file s i)) 22 _ (λ _.
       record { it = (refl, record { linked = walk_named s path i h w; mode = mode; uid = uid; gid = gid; size = size; mtime = mtime }) })))
-
-  and_none : (a b : Bool) → (not a && b) ≡ false → a ≡ false → b ≡ false
-  and_none true b e h = absurd (false≢true (sym h))
-  and_none false b e h = e
 
   open_finds : (path : Path) → Finds s r (open_file s r.client path)
   unfolding open_file
@@ -338,7 +385,7 @@ module _ (s : PlainState) (r : ClientRequest) where
   effect_finds (Link from to) f g now next = link_finds from to g.1
   effect_finds (Unlink path) f g now next = unlink_finds path
   effect_finds (Rmdir path) f g now next = rmdir_finds path
-  effect_finds (Rename from to) f g now next = rename_finds from to
+  effect_finds (Rename from to) f g now next = rename_finds from to g.1
   effect_finds (SetAttr path mode uid gid size mtime) f g now next = set_attr_finds path _ (leb-true _ _ f) g.1 g.2 g.3 g.4
   effect_finds (OpenFile path) f g now next = open_finds path
   effect_finds (Release i) f g now next = release_finds i

@@ -55,7 +55,7 @@ there_tid m tid l = let w = in_map (λ (e : ℕ × ℕ). e.0) (entries m) tid l 
 pub tids_count : (m : Map nat_cmp ℕ) → length (tids m) ≡ len m
 tids_count m = length-map (entries m) (λ (e : ℕ × ℕ). e.0) ∙ sym (len-entries m)
 
-is_less : (x y : ℕ) → T (is_lt (nat_cmp x y)) → nat_lt x y ≡ true
+pub is_less : (x y : ℕ) → T (is_lt (nat_cmp x y)) → nat_lt x y ≡ true
 is_less x y = elim (cases_Bool (nat_lt x y)) [
   | inl e ↦ λ _. e
   | inr e ↦ λ h. absurd (elim (x == y) as (λ b. T (is_lt (cond b Equal Greater)) → ⊥) [ true ↦ λ z. z | false ↦ λ z. z ] (subst (λ b. T (is_lt (cond b Less (cond (x == y) Equal Greater)))) e h))

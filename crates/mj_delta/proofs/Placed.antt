@@ -19,7 +19,7 @@ use Rattle.mj_delta.proofs.Lists.{Lies, entry_at, at_entry}
 use Rattle.mj_delta.proofs.TreeIs.{among_held}
 
 -- the first item that passes
-first_passes : {A : Type 0} (p : A → Bool) (xs : List A) (x : A) → Lies x xs → p x ≡ true → (y : A) × (find p xs ≡ Some y) × Lies y xs × (p y ≡ true)
+pub first_passes : {A : Type 0} (p : A → Bool) (xs : List A) (x : A) → Lies x xs → p x ≡ true → (y : A) × (find p xs ≡ Some y) × Lies y xs × (p y ≡ true)
 first_passes p [] x l e = absurd l
 first_passes p (y ∷ ys) x l e = elim (p y) as (λ b. p y ≡ b → (z : _) × (cond b (Some y) (find p ys) ≡ Some z) × Lies z (y ∷ ys) × (p z ≡ true)) [
   | true ↦ λ h. (y, refl, inl refl, h)
@@ -30,7 +30,7 @@ first_passes p (y ∷ ys) x l e = elim (p y) as (λ b. p y ≡ b → (z : _) × 
 ] refl
 
 module _ (rank : ℕ) (t : Table) (s : PlainState) (is : IsTreeOf rank t s) (r : ClientRequest) where
-  full_passes : (q : ℕ × List ℕ) (d : Dentry) (i : ℕ) → is_full_at rank t r (holding rank t) i (q, d) ≡ true → get t.dentries q ≡ Some d → get is.primary i ≡ Some q
+  pub full_passes : (q : ℕ × List ℕ) (d : Dentry) (i : ℕ) → is_full_at rank t r (holding rank t) i (q, d) ≡ true → get t.dentries q ≡ Some d → get is.primary i ≡ Some q
   full_passes q (Full v x) i h at = let both = and_parts _ _ h in is.dentries.each_primary i q (sym (among_held rank t s is q.0) ∙ both.0) (ap full_of at ∙ ap Some (eqb-true x.ino i both.1))
   full_passes q (Remote v j k) i h at = absurd (false≢true (and_parts _ _ h).1)
 

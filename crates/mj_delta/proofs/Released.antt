@@ -36,13 +36,13 @@ module _ (rank : ℕ) (t : Table) (s : PlainState) (is : IsTreeOf rank t s) (cli
   abbrev m : HasDentries rank t s is.primary
   m = is.dentries
 
-  abbrev less : PlainState
+  abbrev pub less : PlainState
   less = record s { opens = remove s.opens (client, i) }
 
-  file : is_file s i ≡ true
+  pub file : is_file s i ≡ true
   file = m.open_files client i there
 
-  its : (p : ℕ × List ℕ) × (get is.primary i ≡ Some p)
+  pub its : (p : ℕ × List ℕ) × (get is.primary i ≡ Some p)
   its = let r = kind_record File (get s.records i) file in record_primary rank t s is.primary m i r.0 r.1
 
   fits : i < 2 ^ 64
@@ -60,10 +60,10 @@ module _ (rank : ℕ) (t : Table) (s : PlainState) (is : IsTreeOf rank t s) (cli
   open_other : (j : ℕ) → (i ≡ j → ⊥) → open_count less j ≡ open_count s j
   open_other j ne = let none : cond (i == j) 1 0 ≡ 0 = ap (λ b. cond {A = ℕ} b 1 0) (ne_eqb i j ne) in omega (arith, open_less j, none)
 
-  kept_other : (j : ℕ) → (i ≡ j → ⊥) → is_kept less j ≡ is_kept s j
+  pub kept_other : (j : ℕ) → (i ≡ j → ⊥) → is_kept less j ≡ is_kept s j
   kept_other j ne = ap (λ n. nat_lt 0 (link_count s j + n)) (open_other j ne)
 
-  was_kept : is_kept s i ≡ true
+  pub was_kept : is_kept s i ≡ true
   was_kept =
       let r = kind_record File (get s.records i) file in
       elim (cases_Bool (is_kept s i)) [
@@ -125,7 +125,7 @@ module _ (rank : ℕ) (t : Table) (s : PlainState) (is : IsTreeOf rank t s) (cli
     abbrev v : ℕ
     v = next_version t (stray_ino rank)
 
-    abbrev s1 : PlainState
+    abbrev pub s1 : PlainState
     s1 = record less { records = remove s.records i }
 
     no_count : link_count s i + open_count less i ≡ 0
@@ -153,7 +153,7 @@ module _ (rank : ℕ) (t : Table) (s : PlainState) (is : IsTreeOf rank t s) (cli
     named : p.1 ≡ hex i
     named = m.stray_names p.1 i ((λ z. names (get t.dentries (sym in_stray z, p.1))) ∙ full_named _ i (m.primary_full i p its.1))
 
-    place : p ≡ (stray_ino rank, hex i)
+    pub place : p ≡ (stray_ino rank, hex i)
     place = λ z. (in_stray z, named z)
 
     abbrev t1 : Table
@@ -184,7 +184,7 @@ module _ (rank : ℕ) (t : Table) (s : PlainState) (is : IsTreeOf rank t s) (cli
     kind_same : (kind : Kind) (j : ℕ) → (i ≡ j → ⊥) → is_kind kind (get s1.records j) ≡ is_kind kind (get s.records j)
     kind_same kind j ne = ap (is_kind kind) (remove_other exact_nat s.records i j (eq_false exact_nat j i (λ e. ne (sym e))))
 
-    no_dir : is_kind Dir (get s.records i) ≡ false
+    pub no_dir : is_kind Dir (get s.records i) ≡ false
     no_dir = let r = kind_record File (get s.records i) file in ap (is_kind Dir) r.1 ∙ file_no_dir r.0.kind (sym (ap (is_kind File) r.1) ∙ file)
       where
         file_no_dir : (k : Kind) → same_kind k File ≡ true → same_kind k Dir ≡ false
@@ -198,7 +198,7 @@ module _ (rank : ℕ) (t : Table) (s : PlainState) (is : IsTreeOf rank t s) (cli
       | inr ne ↦ ap (λ b. (d == root) || b) (kind_same Dir d ne)
     ]
 
-    held_same : (d : ℕ) → is_held rank s1 d ≡ is_held rank s d
+    pub held_same : (d : ℕ) → is_held rank s1 d ≡ is_held rank s d
     held_same d = ap (λ b. b || (d == stray_ino rank)) (dir_same d)
 
     abbrev primary1 : Places
@@ -211,7 +211,7 @@ module _ (rank : ℕ) (t : Table) (s : PlainState) (is : IsTreeOf rank t s) (cli
     ]
 
     -- no other full dentry stands at its place
-    far : (j : ℕ) (q : ℕ × List ℕ) → (i ≡ j → ⊥) → get is.primary j ≡ Some q → eq_by_cmp place_cmp q z0 ≡ false
+    pub far : (j : ℕ) (q : ℕ × List ℕ) → (i ≡ j → ⊥) → get is.primary j ≡ Some q → eq_by_cmp place_cmp q z0 ≡ false
     far j q ne e = eq_false exact_place q z0 (λ same. ne (some_same i j (sym (m.primary_full i p its.1) ∙ ap (λ q. full_of (get t.dentries q)) (place ∙ sym same) ∙ m.primary_full j q e)))
 
     cell_other : (j : ℕ) → (i ≡ j → ⊥) → cell_of t1 primary1 j ≡ cell_of t is.primary j
@@ -288,7 +288,7 @@ module _ (rank : ℕ) (t : Table) (s : PlainState) (is : IsTreeOf rank t s) (cli
       | inr w ↦ is_some_at _ w.0 w.1
     ]))
 
-  release_plan : (r : ClientRequest) → client ≡ r.client → IsPlan rank t s r i (change.Release client i) None None (Some i) (release_lumps rank t s client i)
+  pub release_plan : (r : ClientRequest) → client ≡ r.client → IsPlan rank t s r i (change.Release client i) None None (Some i) (release_lumps rank t s client i)
   release_plan r whose = elim (is_kept less i) as (λ b. is_kept less i ≡ b → IsPlan rank t s r i (change.Release client i) None None (Some i) (if b then [] else null_lump (stray_ino rank) (next_version t (stray_ino rank)) (hex i) ∷ [])) [
     | true ↦ λ kept.
         let state : less ≡ settled less i = sym (ap (λ b. if b then less else record less { records = remove s.records i }) kept) in

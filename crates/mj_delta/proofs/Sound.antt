@@ -39,14 +39,14 @@ not_true : (b : Bool) → not b ≡ true → b ≡ true → ⊥
 not_true true e h = false≢true e
 not_true false e h = false≢true h
 
-times_passing : (i : ℕ) (rs : List InodeRecord) → times i (inos rs) ≡ passing (λ (r : InodeRecord). i == r.ino) rs
+pub times_passing : (i : ℕ) (rs : List InodeRecord) → times i (inos rs) ≡ passing (λ (r : InodeRecord). i == r.ino) rs
 times_passing i [] = refl
 times_passing i (r ∷ rs) = elim (i == r.ino) as (λ b. (if b then times i (inos rs) + 1 else times i (inos rs)) ≡ cond b 1 0 + passing (λ (r : InodeRecord). i == r.ino) rs) [
   | true ↦ let rest = times_passing i rs in omega (arith, rest)
   | false ↦ let rest = times_passing i rs in omega (arith, rest)
 ]
 
-replies_passing : (client : ℕ) (es : List ((ℕ × ℕ) × ℕ)) → passing (λ (e : (ℕ × ℕ) × ℕ). e.0.0 == client) es ≡ length (filter_map (reply_of client) es)
+pub replies_passing : (client : ℕ) (es : List ((ℕ × ℕ) × ℕ)) → passing (λ (e : (ℕ × ℕ) × ℕ). e.0.0 == client) es ≡ length (filter_map (reply_of client) es)
 replies_passing client [] = refl
 replies_passing client (e ∷ es) = elim (e.0.0 == client) as (λ b. cond b 1 0 + passing (λ (e : (ℕ × ℕ) × ℕ). e.0.0 == client) es ≡ length (cons_option (if b then Some (e.0.1, e.1) else None) (filter_map (reply_of client) es))) [
   | true ↦ let rest = replies_passing client es in omega (arith, rest)

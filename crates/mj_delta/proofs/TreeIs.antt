@@ -33,7 +33,7 @@ full_entry dirs q (Remote v i k) r h = absurd (none_some r (sym (cond_same (is_a
 pub entry_full : (dirs : List ℕ) (q : ℕ × List ℕ) (v : ℕ) (r : InodeRecord) → is_among dirs q.0 ≡ true → full_record dirs (q, Full v r) ≡ Some r
 entry_full dirs q v r h = ap (λ b. if b then Some r else None) h
 
-same_find : (client tid : ℕ) (es : List ((ℕ × ℕ) × ℕ)) → find nat_cmp tid (filter_map (reply_of client) es) ≡ find pair_cmp (client, tid) es
+pub same_find : (client tid : ℕ) (es : List ((ℕ × ℕ) × ℕ)) → find nat_cmp tid (filter_map (reply_of client) es) ≡ find pair_cmp (client, tid) es
 same_find client tid [] = refl
 same_find client tid (e ∷ es) =
     let rest = same_find client tid es in

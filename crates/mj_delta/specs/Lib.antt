@@ -6,3 +6,6 @@ pub mod Events
 pub mod Steps
 pub mod Histories
 pub mod Recovering
+pub mod Plan
+pub mod EventFor
+pub mod Cells

@@ -29,7 +29,7 @@ use Rattle.mj_cells.specs.declared.cell.CellValue.TheVariants.{Full, Remote, Nul
 use Rattle.mj_cells.specs.declared.cell.CellWrite.{CellWrite}
 use Rattle.mj_cells.specs.Table.{Table, value_of, dentry_value, overlay}
 use Rattle.mj_cells.specs.Table as table
-use Rattle.mj_recovery.specs.Tree.{Entry, ino_of, is_among, reachable, holding, tree_of}
+use Rattle.mj_recovery.specs.Tree.{Entry, is_among, reachable, holding, tree_of}
 
 -- two values that say the same, versions aside: null and gone are one
 abbrev pub same_content : CellValue → CellValue → Bool
@@ -79,7 +79,8 @@ module _ (rank : ℕ) (t : Table) (r : ClientRequest) where
   new_place (Rename from to) = result_ok (place old to 22)
   new_place _ = None
 
-  -- A full dentry stays while its name does, goes along with a rename, and else to stray while anything keeps its inode.
+  -- A full dentry stays while its name does, goes along with a rename, and else to stray while anything keeps its inode, where
+  -- it stays.
   abbrev pub one_of : ℕ → List (Option (ℕ × List ℕ)) → Option (ℕ × List ℕ)
   one_of i [] = if is_kept new i then Some (stray_place i) else None
   one_of i (None ∷ places) = one_of i places
@@ -89,12 +90,12 @@ module _ (rank : ℕ) (t : Table) (r : ClientRequest) where
   abbrev pub first_link : ℕ → Option (ℕ × List ℕ)
   first_link i = option_map (λ (e : (ℕ × List ℕ) × ℕ). e.0) (find (λ (e : (ℕ × List ℕ) × ℕ). e.1 == i) (entries new.links))
 
+  abbrev pub primary_from : ℕ → Option (ℕ × List ℕ) → Option (ℕ × List ℕ)
+  primary_from i None = first_link i
+  primary_from i (Some q) = one_of i (if q.0 == stray_ino rank then [] else Some q ∷ new_place r.op ∷ [])
+
   abbrev pub new_primary : ℕ → Option (ℕ × List ℕ)
-  new_primary i = by_old (primary i)
-    where
-      by_old : Option (ℕ × List ℕ) → Option (ℕ × List ℕ)
-      by_old None = first_link i
-      by_old (Some q) = one_of i (Some q ∷ new_place r.op ∷ [])
+  new_primary i = primary_from i (primary i)
 
   abbrev pub same_place : ℕ × List ℕ → Option (ℕ × List ℕ) → Bool
   same_place q None = false
@@ -124,17 +125,22 @@ module _ (rank : ℕ) (t : Table) (r : ClientRequest) where
   abbrev pub dentry_after : ℕ × List ℕ → ℕ → CellValue
   dentry_after q version = dentry_at q version (inode_at q)
 
-  -- A dentry is of the old tree where its directory is reachable; in stray, where its inode has a record.
+  -- a record of the old tree
+  abbrev pub is_recorded : table.Dentry → Bool
+  is_recorded (table.Dentry.Full v q) = is_some (get old.records q.ino)
+  is_recorded (table.Dentry.Remote v j k) = false
+
+  -- A dentry is of the old tree where its directory is reachable; in stray, where it is full and its inode has a record.
   abbrev pub is_of_tree : ℕ × List ℕ → table.Dentry → Bool
-  is_of_tree q d = if q.0 == stray_ino rank then is_some (get old.records (ino_of d)) else is_among (reachable t) q.0
+  is_of_tree q d = if q.0 == stray_ino rank then is_recorded d else is_among (reachable t) q.0
 
   -- what the old tree knows of a dentry
+  abbrev pub known : ℕ × List ℕ → Option table.Dentry → CellValue
+  known q None = Gone
+  known q (Some d) = if is_of_tree q d then dentry_value (Some d) else Gone
+
   abbrev pub dentry_before : ℕ × List ℕ → CellValue
-  dentry_before q = by_dentry (get t.dentries q)
-    where
-      by_dentry : Option table.Dentry → CellValue
-      by_dentry None = Gone
-      by_dentry (Some d) = if is_of_tree q d then dentry_value (Some d) else Gone
+  dentry_before q = known q (get t.dentries q)
 
   abbrev pub is_changed : ℕ × List ℕ → Bool
   is_changed q = not (same_content (dentry_before q) (dentry_after q 0))
