@@ -75,7 +75,7 @@ follow_each from [] to f w i = absurd i
 follow_each from (v ∷ ws) to f w (inl e) = omega (arith, f.0, ap (λ (s : Sent). s.from) e)
 follow_each from (v ∷ ws) to f w (inr i) = omega (arith, f.0, f.1, follow_each v.to ws to f.2 w i)
 
-in_more : (ws : List Sent) (x w : Sent) → In w (ws ++ x ∷ []) → In w ws ⊎ (x ≡ w)
+pub in_more : (ws : List Sent) (x w : Sent) → In w (ws ++ x ∷ []) → In w ws ⊎ (x ≡ w)
 in_more [] x w (inl e) = inr e
 in_more [] x w (inr i) = absurd i
 in_more (v ∷ ws) x w (inl e) = inl (inl e)
@@ -408,6 +408,12 @@ pub begun_as : (h : Header) (rank tail removing : ℕ) (buffer ends : List ℕ) 
 begun_as h rank tail removing buffer ends sent heads removals a b c d e f k above below =
     let same : begun h rank tail ≡ record { rank = rank; tail = tail; trimmed = h.trimmed; header = h; live = h.expire; safe = tail; flushed = tail; buffer = buffer; ends = ends; sent = sent; heads = heads; removals = removals; removing = removing; offer = None; room = 0 } = cc in
     subst (λ (j : Journal). IsJournal j) same (begun_is h rank tail k above below)
+
+pub copied_as : (j : Journal) (buffer ends : List ℕ) (sent heads removals : List Sent) → IsJournal j → buffer ≡ j.buffer → ends ≡ j.ends → sent ≡ j.sent → heads ≡ j.heads → removals ≡ j.removals
+    → IsJournal (record j { buffer = buffer; ends = ends; sent = sent; heads = heads; removals = removals })
+copied_as j buffer ends sent heads removals k a b c d e =
+    let same : record j { buffer = buffer; ends = ends; sent = sent; heads = heads; removals = removals } ≡ j = λ i. record j { buffer = a i; ends = b i; sent = c i; heads = d i; removals = e i } in
+    subst (λ (m : Journal). IsJournal m) (sym same) k
 
 pub window_small : (j : Journal) → IsJournal j → (j.safe ≤ 2 ^ 62) × (period (layout_of j) ≤ 67108864) × (0 < period (layout_of j)) × (1 ≤ (layout_of j).sc)
 window_small j k = let z = sizes (layout_of j) k.layout in (omega (arith, safe_within j k, k.below), z.period_most, omega (arith, z.period_least), z.sc)

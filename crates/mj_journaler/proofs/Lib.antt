@@ -3,3 +3,4 @@ mod Rings
 mod Room
 pub mod Out
 pub mod Kept
+mod Newer

@@ -46,6 +46,20 @@ impl Buffer {
         }
     }
 
+    /// A buffer of these bytes, with room for so many more.
+    pub fn holding(alloc: Global, bytes: Vec<u8>, room: usize) -> Result<Buffer, AllocError>
+        ensures bytes { IfOk result (λ b. b.bytes ≡ bytes.items) }
+        ensures room { IfOk result (λ b. room ≤ b.room) }
+    {
+        let mut last = bytes;
+        last.reserve(room)?;
+        Ok(Buffer {
+            full: VecDeque::new(alloc),
+            taken: 0,
+            last,
+        })
+    }
+
     /// Makes room for this many bytes. Without memory it keeps what it has.
     pub fn reserve(&mut self, alloc: Global, bytes: usize) -> Result<(), AllocError>
         ensures bytes { self.new.bytes ≡ self.old.bytes }

@@ -18,6 +18,7 @@ ghost use Rattle.mj_journaler.specs.declared.AppendRefusal.TheVariants.{Memory};
 ghost use Rattle.mj_journaler.specs.declared.sent.Offer.TheVariants.{Flush, Head, Removal};
 
 use crate::buffer::Buffer;
+use crate::copying::copied;
 use crate::ring::Ring;
 use crate::sent::{Offer, Sent};
 use crate::{Acked, AppendRefusal};
@@ -110,6 +111,38 @@ impl Journaler {
             removing,
             offer: None,
             room: 0,
+        })
+    }
+
+    /// A copy, equal to this one.
+    pub fn copy(&self, alloc: Global) -> Result<Journaler, AllocError>
+        ensures { IfOk result (λ j. j ≡ self.now) }
+    {
+        let bytes = self
+            .buffer
+            .front(alloc, (self.end - self.flushed) as usize)?;
+        let buffer = Buffer::holding(alloc, bytes, self.room)?;
+        let ends = copied(alloc, &self.ends)?;
+        let sent = self.sent.copy(alloc)?;
+        let heads = self.heads.copy(alloc)?;
+        let removals = self.removals.copy(alloc)?;
+        Ok(Journaler {
+            rank: self.rank,
+            tail: self.tail,
+            trimmed: self.trimmed,
+            header: self.header,
+            live: self.live,
+            safe: self.safe,
+            flushed: self.flushed,
+            end: self.end,
+            buffer,
+            ends,
+            sent,
+            heads,
+            removals,
+            removing: self.removing,
+            offer: self.offer,
+            room: self.room,
         })
     }
 

@@ -6,6 +6,7 @@ ghost use Rattle.std.specs.Prelude.{◌≡◌};
 ghost use Rattle.mj_journaler.specs.declared.AppendRefusal.TheVariants.{Memory as want_of_memory};
 
 mod buffer;
+mod copying;
 mod journaler;
 mod ring;
 mod sent;
@@ -39,3 +40,6 @@ impl From<AllocError> for AppendRefusal {
         AppendRefusal::Memory
     }
 }
+
+#[cfg(test)]
+mod tests;

@@ -7,6 +7,7 @@ ghost use Rattle.mj_journaler.specs.Outstanding.{lowest, without, found, Follow}
 ghost use Rattle.mj_journaler.specs.Ring.{numbers, out_of, spare, Ascends, BeginsOut, EndsOut};
 ghost use Rattle.mj_journaler.specs.declared.sent.Sent.{Sent};
 
+use crate::copying::copied;
 use crate::sent::{Sent, Slot};
 use std::alloc::{AllocError, Global};
 use std::collections::VecDeque;
@@ -36,6 +37,15 @@ impl Ring {
         Ring {
             slots: VecDeque::new(alloc),
         }
+    }
+
+    /// A copy, with as much room.
+    pub fn copy(&self, alloc: Global) -> Result<Ring, AllocError>
+        ensures sent { IfOk result (λ r. r.sent ≡ self.now.sent) }
+        ensures room { IfOk result (λ r. self.now.room ≤ r.room) }
+    {
+        let slots = copied(alloc, &self.slots)?;
+        Ok(Ring { slots })
     }
 
     /// Makes room for one more.
