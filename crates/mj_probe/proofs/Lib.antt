@@ -1,0 +1,4 @@
+pub mod Looking
+pub mod Behind
+pub mod Least
+pub mod Units

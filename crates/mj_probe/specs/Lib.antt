@@ -1,0 +1,3 @@
+pub mod Looks
+pub mod Missing
+pub mod Ranges
