@@ -9,3 +9,6 @@ pub mod Sending
 pub mod Mount
 pub mod FirstPath
 pub mod Mounts
+pub mod History
+pub mod Flight
+pub mod Live

@@ -22,10 +22,11 @@ abbrev pub IsDownFor : Option Fault → RankRefusal → Type 0
 IsDownFor kept (Down f sealed) = kept ≡ Some f
 IsDownFor kept _ = ⊥
 
--- A rank is down just where it keeps a fault, and says that one.
+-- A rank is down just where it keeps a fault, and says that one. Else memory was wanted.
 abbrev pub IsDownWith : Option Fault → RankRefusal → Type 0
 IsDownWith kept (Down f sealed) = kept ≡ Some f
-IsDownWith kept _ = kept ≡ None
+IsDownWith kept Memory = kept ≡ None
+IsDownWith kept _ = ⊥
 
 -- It says why an entry does not fit. Want of memory is free.
 abbrev pub SaysOfAppend : RankRefusal → Option AppendRefusal → Type 0

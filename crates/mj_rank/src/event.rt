@@ -8,13 +8,15 @@ ghost use Rattle.mj_tree.specs.State.{record_of};
 ghost use Rattle.mj_tree.specs.Answer.{decision};
 ghost use Rattle.mj_tree.specs.Lists.{session_of};
 ghost use Rattle.mj_tree.specs.Meaning.{state_of};
-ghost use Rattle.mj_rank.specs.Journaled.{IsServedRequest, event_of, session_begins, directory_begins, change_event, risen, dropped, tids_below, parent_lump, new_lump, version_after, IsNewDirectory, BeginsDirectory, KeepsFew, IsWritable};
+ghost use Rattle.mj_rank.specs.Journaled.{IsServedRequest, is_served, is_only_name, event_of, session_begins, directory_begins, change_event, risen, dropped, tids_below, parent_lump, new_lump, version_after, IsNewDirectory, BeginsDirectory, KeepsFew, IsWritable};
+ghost use Rattle.mj_base.specs.Name.{is_path};
+ghost use Rattle.mj_delta.specs.Fits.{IsSent, OpFits};
 ghost use Rattle.mj_rank.specs.Sound.{is_sound};
 
-use mj_base::{ClientId, Ino, InodeRecord, Items, Name, Tid};
+use mj_base::{ClientId, Ino, InodeRecord, Items, Name, Path, Tid};
 use mj_event::{Event, SessionEvent, SessionKind, UpdateEvent};
 use mj_meta::{DirLump, FullBit, HeadBit, MetaBlob};
-use mj_tree::{Attributes, Change, ClientRequest, Decision, PlainSession, PlainTree};
+use mj_tree::{Attributes, Change, ClientRequest, Decision, Op, PlainSession, PlainTree};
 use std::alloc::{AllocError, Global};
 
 /// The number of `mkdir` among the operations of events.
@@ -58,6 +60,35 @@ fn session_begins(alloc: Global, r: &ClientRequest) -> Event
         tid: Tid(tid),
         dropped: Items::from_vec(Vec::new(alloc)),
     })
+}
+
+/// A client can send a request that is served: its paths are paths, and its numbers fit their types.
+pub fn known(r: &ClientRequest)
+    requires { IsServedRequest r.now }
+    ensures { IsSent r.entry.now }
+{
+    let (_client, _oldest, _tid) = numbers(r);
+    let _now = r.now;
+    known_op(&r.op);
+}
+
+fn known_op(op: &Op)
+    requires { IsTrue (is_served op.now) }
+    ensures { OpFits op.now }
+{
+    match op {
+        Op::Mkdir { path, .. } => known_path(path),
+        _ => {}
+    }
+}
+
+fn known_path(path: &Path)
+    requires { IsTrue (is_only_name path.now) }
+    ensures { IsTrue (is_path path.now) }
+{
+    if let [name] = path.names() {
+        let _bytes = name.as_slice();
+    }
 }
 
 // The numbers of a request's client, of the oldest reply it may still ask for, and of itself.

@@ -6,6 +6,7 @@ mod conditions;
 mod event;
 mod first_path;
 mod found;
+mod laws;
 mod log;
 mod mounting;
 mod rank;
@@ -13,6 +14,10 @@ mod refusal;
 mod waiting;
 
 pub use answers::{Early, Fault, MountStep, Reaped, Span};
+pub use laws::{
+    a_mount_lives_on, a_new_store_rests, a_rank_answers, a_rank_lives_on, a_stopped_store_stays,
+    each_image_is_a_front,
+};
 pub use mounting::Mounting;
 pub use rank::Rank;
 pub use refusal::{MountRefusal, RankRefusal, Sealed};

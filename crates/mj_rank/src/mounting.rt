@@ -46,10 +46,15 @@ pub struct Mounting<S> {
 
 impl<S: ObjectStore> Mounting<S> {
     ghost use Rattle.mj_store.specs.State.{StoreState};
-    ghost use Rattle.mj_store.specs.Moves.{Still, Submits};
+    ghost use Rattle.mj_store.specs.Moves.{Still, Submits, Steps, Stays, Restarts};
     ghost use Rattle.mj_rank.specs.FirstPath.{IsNoOther, first_path_in};
-    ghost use Rattle.mj_rank.specs.Mounts.{Begins, BeginsAs, SendsHeader, KeepsFound, header_op, first_value};
+    ghost use Rattle.mj_rank.specs.Mounts.{Begins, BeginsAs, SendsHeader, KeepsFound, MountSteps, header_op, first_value, oldest_header, phase_at, next_stage};
+    ghost use Rattle.mj_rank.specs.Flight.{HasCompleted};
+    ghost use Rattle.mj_store.specs.Events.{Tells};
+    ghost use Rattle.mj_recovery.specs.Stream.{journal_object};
     ghost use Rattle.mj_rank.specs.Request.{value_of};
+    ghost use Rattle.mj_machine.specs.Machine.{LogMachine, stopped};
+    ghost use Rattle.mj_rank.specs.Live.{MountLives, RankLives, StopLives, StopsSafely};
     ghost use Rattle.mj_rank.specs.Since.{MountSince, RankSince, IsAlone, AwaitsSent, AwaitsNone, IsSent, IsWaiting, steps_left, Makes};
 
     /// Reads the header and the journal. Nothing is submitted.
@@ -65,6 +70,12 @@ impl<S: ObjectStore> Mounting<S> {
         ensures told { (s : StoreState) → S.state store ≡ Some s → Still s → BeginsAs result (first_path_in number s) }
         ensures unbuilt { IfErr result (λ e. IsNoOther e.1) }
         ensures begins { IfOk result (Begins number) }
+        ensures stays { IfOk result (λ k. Stays (S.state store) (S.state k.store)) }
+        ensures told_refused { IfErr result (λ e. Stays (S.state store) (S.state e.0)) }
+        ensures live { IfOk result (λ k. (m : LogMachine) → StopLives S.state store number m → MountLives S.state k (stopped m k.found.tail)) }
+        ensures live_refused { IfErr result (λ e. (m : LogMachine) → StopLives S.state store number m → StopLives S.state e.0 number m) }
+        ensures stops { IfOk result (λ k. (m : LogMachine) → StopLives S.state store number m → StopsSafely number m (S.state store) (S.state k.store)) }
+        ensures stops_refused { IfErr result (λ e. (m : LogMachine) → StopLives S.state store number m → StopsSafely number m (S.state store) (S.state e.0)) }
     {
         let found = match read_found(alloc, &mut store, number) {
             Ok(found) => found,
@@ -107,8 +118,13 @@ impl<S: ObjectStore> Mounting<S> {
         ensures cause { (base : ℕ) → MountSince S.faults S.unreported base self.old → IfErr result (λ e. IsStoreFault e → Rose base (S.faults self.new.store)) }
         ensures moves { (base : ℕ) → MountSince S.faults S.unreported base self.old → IfOk result (λ step. Makes step (steps_left self.old.stage) (steps_left self.new.stage)) }
         ensures waits { IfOk result (λ step. IsWaiting step → AwaitsSent self.new.stage) }
+        ensures up { OnOk result (self.new.fault ≡ None) }
         ensures sends { IfOk result (λ step. IsSent step → SendsHeader S.state self.old self.new) }
         ensures kept { KeepsFound self.old self.new }
+        ensures steps { MountSteps S.state result self.old self.new }
+        ensures never_waits { Tells (S.state self.old.store) HasCompleted → IfOk result (λ step. IsWaiting step → ⊥) }
+        ensures live { (m : LogMachine) → MountLives S.state self.old m → MountLives S.state self.new m }
+        ensures stops { (m : LogMachine) → MountLives S.state self.old m → StopsSafely self.old.number m (S.state self.old.store) (S.state self.new.store) }
     {
         if let Some(fault) = self.fault {
             return Err(MountRefusal::Store(fault));
@@ -124,7 +140,7 @@ impl<S: ObjectStore> Mounting<S> {
 
     /// The operation that is sent and not acknowledged, and its object.
     pub fn oldest_sent(&self) -> Option<(OpNo, ObjectName)>
-        ensures { AwaitsSent self.now.stage → IsSome result }
+        ensures { result ≡ oldest_header self.now }
     {
         match self.stage {
             Stage::Announced | Stage::Opened => Some((self.sent, journal_object(self.number, 0))),
@@ -137,6 +153,7 @@ impl<S: ObjectStore> Mounting<S> {
         ensures since { (base : ℕ) → MountSince S.faults S.unreported base self → RankSince S.faults S.unreported base result }
         ensures store { result.store ≡ self.store }
         ensures value { value_of result ≡ first_value self }
+        ensures live { (m : LogMachine) → MountLives S.state self m → RankLives S.state result m }
     {
         let Mounting {
             store,
@@ -180,7 +197,13 @@ impl<S: ObjectStore> Mounting<S> {
         ensures later { IfOk result (λ store. S.faults self.store ≤ S.faults store) }
         ensures cause { IfErr result (λ e. Rose (S.faults self.store) (S.faults e.0.store)) }
         ensures since { IfErr result (λ e. (base : ℕ) → MountSince S.faults S.unreported base self → MountSince S.faults S.unreported base e.0) }
-        ensures stage { IfErr result (λ e. e.0.stage ≡ self.stage) }
+        ensures told { IfOk result (λ store. Restarts (S.state self.store) (S.state store)) }
+        ensures told_refused { IfErr result (λ e. Stays (S.state self.store) (S.state e.0.store)) }
+        ensures kept { IfErr result (λ e. e.0 ≡ record self { store = e.0.store }) }
+        ensures live { IfOk result (λ store. (m : LogMachine) → MountLives S.state self m → StopLives S.state store self.number m) }
+        ensures live_refused { IfErr result (λ e. (m : LogMachine) → MountLives S.state self m → MountLives S.state e.0 m) }
+        ensures stops { IfOk result (λ store. (m : LogMachine) → MountLives S.state self m → StopsSafely self.number m (S.state self.store) (S.state store)) }
+        ensures stops_refused { IfErr result (λ e. (m : LogMachine) → MountLives S.state self m → StopsSafely self.number m (S.state self.store) (S.state e.0.store)) }
     {
         match self.store.restart() {
             Ok(()) => Ok(self.into_store()),
@@ -192,7 +215,13 @@ impl<S: ObjectStore> Mounting<S> {
     pub fn apply(&mut self, name: &ObjectName) -> Result<Option<OpNo>, StoreFault>
         ensures since { (base : ℕ) → MountSince S.faults S.unreported base self.old → MountSince S.faults S.unreported base self.new }
         ensures cause { OnErr result (Rose (S.faults self.old.store) (S.faults self.new.store)) }
-        ensures stage { self.new.stage ≡ self.old.stage }
+        ensures told { IfOk result (λ op. Steps name.now op (S.state self.old.store) (S.state self.new.store)) }
+        ensures told_refused { OnErr result (Stays (S.state self.old.store) (S.state self.new.store)) }
+        ensures kept { self.new ≡ record self.old { store = self.new.store } }
+        ensures live { (m : LogMachine) → MountLives S.state self.old m → MountLives S.state self.new m }
+        ensures stops { (m : LogMachine) → MountLives S.state self.old m → StopsSafely self.old.number m (S.state self.old.store) (S.state self.new.store) }
+        ensures completes { (m : LogMachine) → MountLives S.state self.old m → self.old.fault ≡ None → AwaitsSent self.old.stage → name.now ≡ journal_object self.old.number 0
+            → OnOk result (Tells (S.state self.new.store) HasCompleted) }
     {
         self.store.step(name)
     }
@@ -200,14 +229,23 @@ impl<S: ObjectStore> Mounting<S> {
     // Sends the header in a phase.
     fn send(&mut self, alloc: Global, phase: Phase, next: Stage) -> Result<MountStep, MountRefusal>
         requires idle { (base : ℕ) → MountSince S.faults S.unreported base self.old → S.unreported self.old.store ≡ [] }
+        requires up { self.old.fault ≡ None }
+        requires none { AwaitsNone self.old.stage }
         requires stage { AwaitsSent next }
+        requires phase { phase ≡ phase_at self.old.stage self.old.header.phase }
+        requires next { next ≡ next_stage self.old.stage }
         ensures since { (base : ℕ) → MountSince S.faults S.unreported base self.old → MountSince S.faults S.unreported base self.new }
         ensures cause { (base : ℕ) → MountSince S.faults S.unreported base self.old → IfErr result (λ e. IsStoreFault e → Rose base (S.faults self.new.store)) }
+        ensures up { OnOk result (self.new.fault ≡ None) }
         ensures sent { IfOk result IsSent }
+        ensures never_waits { IfOk result (λ step. IsWaiting step → ⊥) }
         ensures stage { OnOk result (self.new.stage ≡ next) }
         ensures phase { self.new.header ≡ record self.old.header { phase = phase } }
         ensures told { OnOk result (Submits (header_op self.old.number self.new.header) self.new.sent (S.state self.old.store) (S.state self.new.store)) }
         ensures kept { KeepsFound self.old self.new }
+        ensures steps { MountSteps S.state result self.old self.new }
+        ensures live { (m : LogMachine) → MountLives S.state self.old m → MountLives S.state self.new m }
+        ensures stops { (m : LogMachine) → MountLives S.state self.old m → StopsSafely self.old.number m (S.state self.old.store) (S.state self.new.store) }
     {
         self.header.phase = phase;
         let bytes = self.header.write(alloc)?;
@@ -231,14 +269,21 @@ impl<S: ObjectStore> Mounting<S> {
         requires alone { (base : ℕ) → MountSince S.faults S.unreported base self.old → IsAlone self.old.sent (S.unreported self.old.store) }
         requires idle { AwaitsNone next }
         requires less { steps_left next < steps_left self.old.stage }
+        requires up { self.old.fault ≡ None }
         requires sent { AwaitsSent self.old.stage }
+        requires next { next ≡ next_stage self.old.stage }
         ensures since { (base : ℕ) → MountSince S.faults S.unreported base self.old → MountSince S.faults S.unreported base self.new }
         ensures cause { (base : ℕ) → MountSince S.faults S.unreported base self.old → IfErr result (λ e. IsStoreFault e → Rose base (S.faults self.new.store)) }
         ensures moves { (base : ℕ) → MountSince S.faults S.unreported base self.old → IfOk result (λ step. Makes step (steps_left self.old.stage) (steps_left self.new.stage)) }
         ensures waits { IfOk result (λ step. IsWaiting step → AwaitsSent self.new.stage) }
         ensures kept { KeepsFound self.old self.new }
         ensures header { self.new.header ≡ self.old.header }
+        ensures up { OnOk result (self.new.fault ≡ None) }
         ensures not_sent { IfOk result (λ step. IsSent step → ⊥) }
+        ensures never_waits { Tells (S.state self.old.store) HasCompleted → IfOk result (λ step. IsWaiting step → ⊥) }
+        ensures steps { MountSteps S.state result self.old self.new }
+        ensures live { (m : LogMachine) → MountLives S.state self.old m → MountLives S.state self.new m }
+        ensures stops { (m : LogMachine) → MountLives S.state self.old m → StopsSafely self.old.number m (S.state self.old.store) (S.state self.new.store) }
     {
         match self.store.reap() {
             None => Ok(MountStep::Waiting),

@@ -6,7 +6,7 @@ ghost use Rattle.mj_tree.specs.Meaning.{state_of};
 ghost use Rattle.mj_rank.specs.Sound.{is_sound};
 
 use crate::answers::{Early, Fault, Reaped, Span};
-use crate::event::{event_of, version_after};
+use crate::event::{event_of, known, version_after};
 use crate::log::Log;
 use crate::refusal::{RankRefusal, Sealed};
 use crate::waiting::{Waiting, add, forget_safe, last_of};
@@ -41,7 +41,7 @@ impl<S: ObjectStore> Rank<S> {
     ghost use Rattle.mj_rank.specs.Refusals.{IsDown, IsDownFor, IsDownWith, SaysOfAppend};
     ghost use Rattle.mj_rank.specs.Request.{value_of, early_of, after_request, cause_of, Says, most_requests, kept_end, asked_once_more, with_event};
     ghost use Rattle.mj_rank.specs.Sending.{Flushes, Acknowledges, ack_of};
-    ghost use Rattle.mj_store.specs.Moves.{Reaps, Steps};
+    ghost use Rattle.mj_store.specs.Moves.{Reaps, Stays, Steps, Restarts};
     ghost use Rattle.mj_rank.specs.Waiting.{waiting_end, unsafe_end};
     ghost use Rattle.mj_rank.specs.Log.{log_value, entry_end, append_refusal, unsafe_bytes, oldest_write};
     ghost use Rattle.mj_rank.specs.Journaled.{IsServedRequest, IsWritable};
@@ -50,6 +50,8 @@ impl<S: ObjectStore> Rank<S> {
     ghost use Rattle.mj_event.specs.Event.{event_bytes};
     ghost use Rattle.std.specs.Prelude.{◌+◌, ◌<◌};
     ghost use Rattle.std.specs.Option.{option_and_then, option_copied};
+    ghost use Rattle.mj_machine.specs.Machine.{LogMachine, reply_to};
+    ghost use Rattle.mj_rank.specs.Live.{RankLives, StopLives, StopsSafely, after_early, after_reap};
 
     pub(crate) fn serving(
         alloc: Global,
@@ -89,7 +91,11 @@ impl<S: ObjectStore> Rank<S> {
         ensures kept { OnErr result (value_of self.new ≡ value_of self.old) }
         ensures store { self.new.store ≡ self.old.store }
         ensures since { (base : ℕ) → RankSince S.faults S.unreported base self.old → RankSince S.faults S.unreported base self.new }
+        ensures live { IfOk result (λ early. (m : LogMachine) → RankLives S.state self.old m → RankLives S.state self.new (after_early m r.entry.now early)) }
+        ensures live_refused { OnErr result ((m : LogMachine) → RankLives S.state self.old m → RankLives S.state self.new m) }
+        ensures reply { IfOk result (λ early. (m : LogMachine) → RankLives S.state self.old m → early.reply ≡ reply_to m r.entry.now) }
     {
+        known(r);
         self.up()?;
         if self.asked >= MOST_REQUESTS {
             return Err(RankRefusal::MountSpent(self.asked, Sealed::new()));
@@ -216,6 +222,8 @@ impl<S: ObjectStore> Rank<S> {
         ensures up { IfOk result (λ _. self.new.fault ≡ None) }
         ensures flushes { IfOk result (λ span. Flushes S.state span self.old self.new) }
         ensures kept { OnErr result (value_of self.new ≡ record (value_of self.old) { fault = self.new.fault }) }
+        ensures live { (m : LogMachine) → RankLives S.state self.old m → RankLives S.state self.new m }
+        ensures stops { (m : LogMachine) → RankLives S.state self.old m → StopsSafely self.old.number m (S.state self.old.store) (S.state self.new.store) }
     {
         self.up()?;
         let from = self.log.flushed();
@@ -243,6 +251,9 @@ impl<S: ObjectStore> Rank<S> {
         ensures acknowledges { IfOk result (λ reaped. Acknowledges reaped self.old self.new) }
         ensures told { IfOk result (λ reaped. Reaps (ack_of reaped) (S.state self.old.store) (S.state self.new.store)) }
         ensures kept { OnErr result (value_of self.new ≡ record (value_of self.old) { fault = self.new.fault }) }
+        ensures live { IfOk result (λ reaped. (m : LogMachine) → RankLives S.state self.old m → RankLives S.state self.new (after_reap m reaped)) }
+        ensures live_refused { OnErr result ((m : LogMachine) → RankLives S.state self.old m → RankLives S.state self.new m) }
+        ensures stops { (m : LogMachine) → RankLives S.state self.old m → StopsSafely self.old.number m (S.state self.old.store) (S.state self.new.store) }
     {
         self.up()?;
         match self.store.reap() {
@@ -272,6 +283,8 @@ impl<S: ObjectStore> Rank<S> {
         ensures since { (base : ℕ) → RankSince S.faults S.unreported base self.old → RankSince S.faults S.unreported base self.new }
         ensures down { IfErr result (IsDownFor self.new.fault) }
         ensures up { IfOk result (λ _. self.new.fault ≡ None) }
+        ensures live { (m : LogMachine) → RankLives S.state self.old m → RankLives S.state self.new m }
+        ensures stops { (m : LogMachine) → RankLives S.state self.old m → StopsSafely self.old.number m (S.state self.old.store) (S.state self.new.store) }
     {
         self.up()?;
         match self.store.step(name) {
@@ -358,6 +371,13 @@ impl<S: ObjectStore> Rank<S> {
         ensures later { IfOk result (λ store. S.faults self.store ≤ S.faults store) }
         ensures cause { IfErr result (λ e. Rose (S.faults self.store) (S.faults e.0.store)) }
         ensures since { IfErr result (λ e. (base : ℕ) → RankSince S.faults S.unreported base self → RankSince S.faults S.unreported base e.0) }
+        ensures told { IfOk result (λ store. Restarts (S.state self.store) (S.state store)) }
+        ensures told_refused { IfErr result (λ e. Stays (S.state self.store) (S.state e.0.store)) }
+        ensures kept { IfErr result (λ e. value_of e.0 ≡ value_of self) }
+        ensures live { IfOk result (λ store. (m : LogMachine) → RankLives S.state self m → StopLives S.state store self.number m) }
+        ensures live_refused { IfErr result (λ e. (m : LogMachine) → RankLives S.state self m → RankLives S.state e.0 m) }
+        ensures stops { IfOk result (λ store. (m : LogMachine) → RankLives S.state self m → StopsSafely self.number m (S.state self.store) (S.state store)) }
+        ensures stops_refused { IfErr result (λ e. (m : LogMachine) → RankLives S.state self m → StopsSafely self.number m (S.state self.store) (S.state e.0.store)) }
     {
         match self.store.restart() {
             Ok(()) => Ok(self.into_store()),

@@ -83,6 +83,17 @@ impl From<AllocError> for MountRefusal {
     }
 }
 
+impl From<StoreFault> for MountRefusal {
+    ghost use Rattle.std.specs.Prelude.{◌≡◌};
+    ghost use Rattle.mj_rank.specs.declared.refusal.MountRefusal.TheVariants.{Store};
+
+    ghost from_gives = { λ fault e. e ≡ Store fault };
+
+    fn from(fault: StoreFault) -> Self {
+        MountRefusal::Store(fault)
+    }
+}
+
 impl From<ReadRefusal> for MountRefusal {
     ghost use Rattle.mj_rank.specs.Refusals.{of_read};
 

@@ -1,3 +1,7 @@
+use Rattle.mj_store.proofs.Paths.{goes_itself, goes_reaps}
+use Rattle.std.proofs.Common.{None, Some}
+use Rattle.mj_rank.specs.Request.{value_of}
+use Rattle.mj_rank.proofs.Living.{value_stays, value_reported, rank_down, rank_acked, stops_by, stops_down}
 use Rattle.std.proofs.Common.{refl}
 use Rattle.mj_rank.proofs.SinceLemmas.{rank_since_same, rank_since_down_by, rank_since_reported, reaps_done}
 use Rattle.mj_rank.proofs.rank.Rank.reap.Goals as goal
@@ -14,3 +18,26 @@ returns-else-not-done-clause-since g c = λ base h. rank_since_reported base c.a
 
 pub returns-else-not-done-clause-told : goal.returns-else-not-done-clause-told
 returns-else-not-done-clause-told g c = reaps_done _ (g.S.ObjectStore.state c.args.self.now.store) (g.S.ObjectStore.state c.reap.new.self) c.if-not-done.false c.in-Some.ensures.told
+
+pub returns-in_err-up-clause-stops : goal.returns-in_err-up-clause-stops
+returns-in_err-up-clause-stops g c = λ m t. stops_by g.S.ObjectStore.state c.args.self.now m (goes_itself _) t
+
+pub returns-then-not-done-clause-live_refused : goal.returns-then-not-done-clause-live_refused
+returns-then-not-done-clause-live_refused g c = λ m t.
+    rank_down g.S.ObjectStore.state c.args.self.now m c.goes_down.new.self (value_of c.args.self.now) _ c.goes_down.ensures.store c.goes_down.ensures.value (value_reported (value_of c.args.self.now) m _ c.in-Some.ensures.told t)
+
+pub returns-then-not-done-clause-stops : goal.returns-then-not-done-clause-stops
+returns-then-not-done-clause-stops g c = λ m t. stops_down g.S.ObjectStore.state c.args.self.now m c.goes_down.new.self c.goes_down.ensures.store (goes_reaps (Some _) c.in-Some.ensures.told) t
+
+pub returns-in-None-clause-live : goal.returns-in-None-clause-live
+returns-in-None-clause-live g c = λ m t. value_stays (value_of c.args.self.now) m c.in-None.ensures.told t
+
+pub returns-in-None-clause-stops : goal.returns-in-None-clause-stops
+returns-in-None-clause-stops g c = λ m t. stops_by g.S.ObjectStore.state c.args.self.now m (goes_reaps None c.in-None.ensures.told) t
+
+pub returns-else-not-done-clause-live : goal.returns-else-not-done-clause-live
+returns-else-not-done-clause-live g c = λ m t.
+    rank_acked g.S.ObjectStore.state c.args.self.now m _ _ _ c.acked.ensures c.safe_pos-safe_to.ensures (reaps_done _ (g.S.ObjectStore.state c.args.self.now.store) (g.S.ObjectStore.state c.reap.new.self) c.if-not-done.false c.in-Some.ensures.told) t
+
+pub returns-else-not-done-clause-stops : goal.returns-else-not-done-clause-stops
+returns-else-not-done-clause-stops g c = λ m t. stops_by g.S.ObjectStore.state c.args.self.now m (goes_reaps (Some _) c.in-Some.ensures.told) t

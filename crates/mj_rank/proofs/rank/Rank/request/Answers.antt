@@ -1,4 +1,7 @@
-use Rattle.std.proofs.Common.{arith}
+use Rattle.std.proofs.Common.{arith, ◌∙◌, sym, ap, subst, IfSome}
+use Rattle.mj_tree.specs.Answer.{reply_of}
+use Rattle.mj_rank.specs.Journaled.{IsWritable}
+use Rattle.mj_rank.proofs.Living.{answered_lives, accepted_lives, refused_lives, reply_lives, accepted_reply}
 use Rattle.mj_rank.specs.Request.{value_of}
 use Rattle.mj_rank.proofs.SinceLemmas.{rank_since_kept}
 use Rattle.mj_rank.proofs.Requests.{cause_up, event_is, admitted_as, refused_as}
@@ -14,3 +17,21 @@ returns-in-Some-clause-refused g c =
 
 pub returns-in-Some-clause-since : goal.returns-in-Some-clause-since
 returns-in-Some-clause-since g c = λ base h. rank_since_kept base c.args.self.now c.accepted.new.self c.accepted.ensures.store c.accepted.ensures.fault h
+
+pub returns-in-None-clause-live : goal.returns-in-None-clause-live
+returns-in-None-clause-live g c =
+    answered_lives g.S.ObjectStore.state c.args.self.now c.answered.new.self c.args.r.now c.known.ensures c.requires c.answered.ensures.store _ _ c.in_ok-outcome.ensures (sym c.in_ok-event_of.ensures.is ∙ c.in-None.is) c.answered.ensures.after
+
+pub returns-in-None-clause-reply : goal.returns-in-None-clause-reply
+returns-in-None-clause-reply g c = λ m t. c.answered.ensures.reply ∙ (ap reply_of c.in_ok-outcome.ensures ∙ reply_lives g.S.ObjectStore.state c.args.self.now c.args.r.now m t)
+
+pub returns-in-Some-clause-live : goal.returns-in-Some-clause-live
+returns-in-Some-clause-live g c =
+    accepted_lives g.S.ObjectStore.state c.args.self.now c.accepted.new.self c.args.r.now c.known.ensures c.requires c.accepted.ensures.store c.accepted.result _ _ c.in_ok-outcome.ensures (sym c.in_ok-event_of.ensures.is ∙ c.in-Some.is)
+    (subst (λ o. IfSome o IsWritable) c.in-Some.is c.in_ok-event_of.ensures.writable) c.accepted.ensures.admitted c.accepted.ensures.after c.accepted.ensures.end
+
+pub returns-in-Some-clause-live_refused : goal.returns-in-Some-clause-live_refused
+returns-in-Some-clause-live_refused g c = refused_lives g.S.ObjectStore.state c.args.self.now c.accepted.new.self c.accepted.result c.accepted.ensures.kept c.accepted.ensures.store
+
+pub returns-in-Some-clause-reply : goal.returns-in-Some-clause-reply
+returns-in-Some-clause-reply g c = accepted_reply g.S.ObjectStore.state c.args.self.now c.args.r.now _ c.accepted.result c.in_ok-outcome.ensures c.accepted.ensures.reply

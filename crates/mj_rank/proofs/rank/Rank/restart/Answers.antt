@@ -1,6 +1,26 @@
+use Rattle.mj_store.proofs.Paths.{goes_stays}
+use Rattle.mj_rank.specs.Request.{value_of}
+use Rattle.mj_rank.proofs.Living.{value_stays, stops_by}
+use Rattle.mj_rank.proofs.Stopping.{store_stopped, store_stops}
 use Rattle.mj_rank.proofs.SinceLemmas.{rank_since_same}
-use Rattle.std.proofs.Common.{refl}
+use Rattle.std.proofs.Common.{refl, sym, subst}
+use Rattle.mj_store.specs.Moves.{Restarts}
 use Rattle.mj_rank.proofs.rank.Rank.restart.Goals as goal
 
 pub returns-in-Err-clause-since : goal.returns-in-Err-clause-since
 returns-in-Err-clause-since g c = λ base h. rank_since_same base c.args.self _ c.restart.ensures.later (c.in-Err.ensures.same_list) refl h
+
+pub returns-in-Ok-clause-live : goal.returns-in-Ok-clause-live
+returns-in-Ok-clause-live g c = store_stopped g.S.ObjectStore.state c.args.self c.into_store.result c.into_store.ensures c.in-Ok.ensures.ok
+
+pub returns-in-Ok-clause-stops : goal.returns-in-Ok-clause-stops
+returns-in-Ok-clause-stops g c = store_stops g.S.ObjectStore.state c.args.self c.into_store.result c.into_store.ensures c.in-Ok.ensures.ok
+
+pub returns-in-Err-clause-live_refused : goal.returns-in-Err-clause-live_refused
+returns-in-Err-clause-live_refused g c = λ m t. value_stays (value_of c.args.self) m c.in-Err.ensures.err t
+
+pub returns-in-Err-clause-stops_refused : goal.returns-in-Err-clause-stops_refused
+returns-in-Err-clause-stops_refused g c = λ m t. stops_by g.S.ObjectStore.state c.args.self m (goes_stays c.in-Err.ensures.err) t
+
+pub returns-in-Ok-clause-told : goal.returns-in-Ok-clause-told
+returns-in-Ok-clause-told g c = subst (λ s. Restarts (g.S.ObjectStore.state c.args.self.store) (g.S.ObjectStore.state s)) (sym c.into_store.ensures) c.in-Ok.ensures.ok
