@@ -1,5 +1,13 @@
 pub mod World
 pub mod Refusals
 pub mod Steps
+pub mod Oldest
 pub mod Phases
 pub mod Asked
+pub mod Sent
+pub mod Carried
+pub mod Stored
+pub mod Tells
+pub mod Live
+pub mod Made
+pub mod Waits

@@ -1,5 +1,5 @@
 -- Which steps need which phase of a world.
-use Rattle.std.specs.Prelude.{◌≡◌, Option, None, Some, Result, Ok, Err, IfErr}
+use Rattle.std.specs.Prelude.{◌≡◌, Option, None, Some, Result, Err, IfErr}
 use Rattle.mj_world.specs.declared.answers.Said.{Said}
 use Rattle.mj_world.specs.declared.answers.Step.{Step}
 use Rattle.mj_world.specs.declared.answers.Step.TheVariants as step

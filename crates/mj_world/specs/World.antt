@@ -1,12 +1,8 @@
 -- What holds of a world since the store's count of faults stood at some number.
-use Rattle.std.specs.Prelude.{◌≡◌, ◌<◌, ℕ, List, []}
+use Rattle.std.specs.Prelude.{◌≡◌, ℕ, List, []}
 use Rattle.mj_base.specs.Counts.{Rose}
 use Rattle.mj_store.specs.Causes.{Listed, Counted}
-use Rattle.mj_rank.specs.Since.{RankSince, MountSince, steps_left, Makes}
-use Rattle.mj_rank.specs.declared.rank.Rank.{Rank}
-use Rattle.mj_rank.specs.declared.mounting.Mounting.{Mounting}
-use Rattle.mj_world.specs.declared.answers.Said.{Said}
-use Rattle.mj_world.specs.declared.answers.Said.TheVariants.{Carried}
+use Rattle.mj_rank.specs.Since.{RankSince, MountSince}
 use Rattle.mj_world.specs.declared.world.Phase.{Phase}
 use Rattle.mj_world.specs.declared.world.Phase.TheVariants as phase
 use Rattle.mj_world.specs.declared.world.World.{World}

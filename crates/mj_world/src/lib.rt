@@ -2,7 +2,9 @@
 #![tactic(auto)]
 
 mod answers;
+mod laws;
 mod world;
 
 pub use answers::{Said, Step, WorldRefusal};
+pub use laws::a_mount_waits_once;
 pub use world::World;

@@ -29,15 +29,26 @@ pub struct World<S: ObjectStore> {
 
 impl<S: ObjectStore> World<S> {
     ghost use Rattle.mj_world.specs.World.{WorldSince, PhaseSince, HasFailed, StoreHas, IsServing};
-    ghost use Rattle.mj_world.specs.Steps.{IsAnswerTo, Leaves, Awaits};
+    ghost use Rattle.mj_world.specs.Steps.{IsAnswerTo, Leaves};
+    ghost use Rattle.mj_world.specs.Oldest.{oldest_sent};
     ghost use Rattle.mj_world.specs.Phases.{phase_refusal, of_serving, of_stopped, of_mounting, of_any, ByPhase};
-    ghost use Rattle.mj_world.specs.Asked.{CanStep, Tells, AnswersIn, ListsIn};
+    ghost use Rattle.mj_world.specs.Asked.{Answers, Lists};
+    ghost use Rattle.mj_world.specs.Sent.{IsFlushed, IsReaped};
+    ghost use Rattle.mj_world.specs.Stored.{IsTried, IsRestarted};
+    ghost use Rattle.mj_world.specs.Tells.{CanStep, WhileServing, WhileStopped, WhileMounting};
+    ghost use Rattle.mj_world.specs.Live.{WorldLives, told, machine_after, Replies};
+    ghost use Rattle.mj_world.specs.Made.{Made};
+    ghost use Rattle.mj_machine.specs.Machine.{LogMachine};
     ghost use Rattle.mj_rank.specs.Journaled.{IsServedRequest};
+    ghost use Rattle.mj_rank.specs.Live.{StopLives, StopsSafely};
 
     /// A stopped world over a store that was restarted.
     pub fn new(store: S, number: RankNo) -> World<S>
         requires { S.unreported store ≡ [] }
         ensures since { (base : ℕ) → Counted base (S.faults store) (S.unreported store) → WorldSince S.faults S.unreported base result }
+        ensures phase { result.phase ≡ Phase.Stopped store }
+        ensures number { result.number ≡ number }
+        ensures live { (m : LogMachine) → StopLives S.state store number m → WorldLives S.state result m }
     {
         World {
             phase: Phase::Stopped(store),
@@ -48,12 +59,7 @@ impl<S: ObjectStore> World<S> {
     /// Makes one step.
     pub fn step(&mut self, alloc: Global, step: &Step) -> Result<Said, WorldRefusal>
         requires { CanStep step.now }
-        ensures since { (base : ℕ) → WorldSince S.faults S.unreported base self.old → WorldSince S.faults S.unreported base self.new }
-        ensures cause { (base : ℕ) → WorldSince S.faults S.unreported base self.old → IfErr result (λ e. IsFault e → HasFailed S.faults base self.new) }
-        ensures answer { IfOk result (IsAnswerTo step.now) }
-        ensures leaves { (base : ℕ) → WorldSince S.faults S.unreported base self.old → IfOk result (λ said. Leaves said self.old self.new) }
-        ensures phase { ByPhase (phase_refusal step.now self.old.phase) result }
-        ensures tells { Tells step.now self.old.phase result self.new.phase }
+        ensures made { Made S.state S.faults S.unreported step.now self.old result self.new }
     {
         match step {
             Step::Ask(r) => self.ask(alloc, r),
@@ -70,6 +76,9 @@ impl<S: ObjectStore> World<S> {
     /// Gives the store back as it is.
     pub fn into_store(self) -> S
         requires { WorldSince S.faults S.unreported 0 self }
+        ensures holds { StoreHas (λ store. store ≡ result) self.phase }
+        ensures told { told S.state self ≡ S.state result }
+        ensures counted { (base : ℕ) → WorldSince S.faults S.unreported base self → Counted base (S.faults result) (S.unreported result) }
         ensures failed { (base : ℕ) → HasFailed S.faults base self → Rose base (S.faults result) }
     {
         let World { phase, number: _ } = self;
@@ -94,7 +103,7 @@ impl<S: ObjectStore> World<S> {
 
     /// The operation with the least number that is sent and not acknowledged, and its object.
     pub fn oldest_sent(&self) -> Option<(OpNo, ObjectName)>
-        ensures { Awaits self.now → IsSome result }
+        ensures { result ≡ oldest_sent self.now.phase }
     {
         match &self.phase {
             Phase::Mounting(mounting) => mounting.oldest_sent(),
@@ -116,12 +125,16 @@ impl<S: ObjectStore> World<S> {
 
     fn ask(&mut self, alloc: Global, r: &ClientRequest) -> Result<Said, WorldRefusal>
         requires { IsServedRequest r.now }
+        ensures number { self.new.number ≡ self.old.number }
         ensures since { (base : ℕ) → WorldSince S.faults S.unreported base self.old → WorldSince S.faults S.unreported base self.new }
         ensures cause { (base : ℕ) → WorldSince S.faults S.unreported base self.old → IfErr result (λ e. IsFault e → HasFailed S.faults base self.new) }
         ensures answer { IfOk result (IsAnswerTo (Step.Ask r.entry.now)) }
         ensures leaves { IfOk result (λ said. Leaves said self.old self.new) }
         ensures phase { ByPhase (of_serving self.old.phase) result }
-        ensures tells { AnswersIn r.entry.now self.old.phase result self.new.phase }
+        ensures tells { WhileServing (Answers r.entry.now) self.old.phase result self.new.phase }
+        ensures live { (m : LogMachine) → WorldLives S.state self.old m → WorldLives S.state self.new (machine_after m (Step.Ask r.entry.now) result) }
+        ensures stops { (m : LogMachine) → WorldLives S.state self.old m → StopsSafely self.old.number m (told S.state self.old) (told S.state self.new) }
+        ensures replies { (m : LogMachine) → WorldLives S.state self.old m → Replies m (Step.Ask r.entry.now) result }
     {
         match &mut self.phase {
             Phase::Serving(rank) => match rank.request(alloc, r) {
@@ -135,10 +148,11 @@ impl<S: ObjectStore> World<S> {
     fn tree(&mut self, alloc: Global) -> Result<Said, WorldRefusal>
         ensures same { self.new ≡ self.old }
         ensures answer { IfOk result (IsAnswerTo Step.Tree) }
-        ensures memory { IfErr result (λ e. IsFault e → ⊥) }
+        ensures cause { (base : ℕ) → IfErr result (λ e. IsFault e → HasFailed S.faults base self.new) }
         ensures leaves { IfOk result (λ said. Leaves said self.old self.new) }
         ensures phase { ByPhase (of_serving self.old.phase) result }
-        ensures tells { ListsIn self.old.phase result }
+        ensures tells { WhileServing Lists self.old.phase result self.new.phase }
+        ensures replies { (m : LogMachine) → WorldLives S.state self.old m → Replies m Step.Tree result }
     {
         match &self.phase {
             Phase::Serving(rank) => match rank.listing(alloc, false) {
@@ -150,11 +164,15 @@ impl<S: ObjectStore> World<S> {
     }
 
     fn flush(&mut self, alloc: Global) -> Result<Said, WorldRefusal>
+        ensures number { self.new.number ≡ self.old.number }
         ensures since { (base : ℕ) → WorldSince S.faults S.unreported base self.old → WorldSince S.faults S.unreported base self.new }
         ensures cause { (base : ℕ) → WorldSince S.faults S.unreported base self.old → IfErr result (λ e. IsFault e → HasFailed S.faults base self.new) }
         ensures answer { IfOk result (IsAnswerTo Step.Flush) }
         ensures leaves { (base : ℕ) → WorldSince S.faults S.unreported base self.old → IfOk result (λ said. Leaves said self.old self.new) }
         ensures phase { ByPhase (of_serving self.old.phase) result }
+        ensures tells { WhileServing (IsFlushed S.state) self.old.phase result self.new.phase }
+        ensures live { (m : LogMachine) → WorldLives S.state self.old m → WorldLives S.state self.new m }
+        ensures stops { (m : LogMachine) → WorldLives S.state self.old m → StopsSafely self.old.number m (told S.state self.old) (told S.state self.new) }
     {
         match &mut self.phase {
             Phase::Serving(rank) => match rank.flush(alloc) {
@@ -166,11 +184,15 @@ impl<S: ObjectStore> World<S> {
     }
 
     fn reap(&mut self) -> Result<Said, WorldRefusal>
+        ensures number { self.new.number ≡ self.old.number }
         ensures since { (base : ℕ) → WorldSince S.faults S.unreported base self.old → WorldSince S.faults S.unreported base self.new }
         ensures cause { (base : ℕ) → WorldSince S.faults S.unreported base self.old → IfErr result (λ e. IsFault e → HasFailed S.faults base self.new) }
         ensures answer { IfOk result (IsAnswerTo Step.Reap) }
         ensures leaves { (base : ℕ) → WorldSince S.faults S.unreported base self.old → IfOk result (λ said. Leaves said self.old self.new) }
         ensures phase { ByPhase (of_serving self.old.phase) result }
+        ensures tells { WhileServing (IsReaped S.state) self.old.phase result self.new.phase }
+        ensures live { (m : LogMachine) → WorldLives S.state self.old m → WorldLives S.state self.new (machine_after m Step.Reap result) }
+        ensures stops { (m : LogMachine) → WorldLives S.state self.old m → StopsSafely self.old.number m (told S.state self.old) (told S.state self.new) }
     {
         match &mut self.phase {
             Phase::Serving(rank) => match rank.reap() {
@@ -182,11 +204,15 @@ impl<S: ObjectStore> World<S> {
     }
 
     fn apply(&mut self, name: &ObjectName) -> Result<Said, WorldRefusal>
+        ensures number { self.new.number ≡ self.old.number }
         ensures since { (base : ℕ) → WorldSince S.faults S.unreported base self.old → WorldSince S.faults S.unreported base self.new }
         ensures cause { (base : ℕ) → WorldSince S.faults S.unreported base self.old → IfErr result (λ e. IsFault e → HasFailed S.faults base self.new) }
         ensures answer { IfOk result (IsAnswerTo (Step.Apply name.now)) }
         ensures leaves { (base : ℕ) → WorldSince S.faults S.unreported base self.old → IfOk result (λ said. Leaves said self.old self.new) }
         ensures phase { ByPhase (of_any self.old.phase) result }
+        ensures tells { IsTried S.state name.now self.old.phase result self.new.phase }
+        ensures live { (m : LogMachine) → WorldLives S.state self.old m → WorldLives S.state self.new m }
+        ensures stops { (m : LogMachine) → WorldLives S.state self.old m → StopsSafely self.old.number m (told S.state self.old) (told S.state self.new) }
     {
         match &mut self.phase {
             Phase::Stopped(store) => match store.step(name) {
@@ -206,11 +232,15 @@ impl<S: ObjectStore> World<S> {
     }
 
     fn begin(&mut self, alloc: Global) -> Result<Said, WorldRefusal>
+        ensures number { self.new.number ≡ self.old.number }
         ensures since { (base : ℕ) → WorldSince S.faults S.unreported base self.old → WorldSince S.faults S.unreported base self.new }
         ensures cause { (base : ℕ) → WorldSince S.faults S.unreported base self.old → IfErr result (λ e. IsFault e → HasFailed S.faults base self.new) }
         ensures answer { IfOk result (IsAnswerTo Step.Begin) }
         ensures leaves { (base : ℕ) → WorldSince S.faults S.unreported base self.old → IfOk result (λ said. Leaves said self.old self.new) }
         ensures phase { ByPhase (of_stopped self.old.phase) result }
+        ensures tells { WhileStopped S.state self.old.number self.old.phase result self.new.phase }
+        ensures live { (m : LogMachine) → WorldLives S.state self.old m → WorldLives S.state self.new (machine_after m Step.Begin result) }
+        ensures stops { (m : LogMachine) → WorldLives S.state self.old m → StopsSafely self.old.number m (told S.state self.old) (told S.state self.new) }
     {
         match mem::replace(&mut self.phase, Phase::Gone) {
             Phase::Stopped(store) => match Mounting::begin(alloc, store, self.number) {
@@ -232,11 +262,15 @@ impl<S: ObjectStore> World<S> {
     }
 
     fn carry(&mut self, alloc: Global) -> Result<Said, WorldRefusal>
+        ensures number { self.new.number ≡ self.old.number }
         ensures since { (base : ℕ) → WorldSince S.faults S.unreported base self.old → WorldSince S.faults S.unreported base self.new }
         ensures cause { (base : ℕ) → WorldSince S.faults S.unreported base self.old → IfErr result (λ e. IsFault e → HasFailed S.faults base self.new) }
         ensures answer { IfOk result (IsAnswerTo Step.Carry) }
         ensures leaves { (base : ℕ) → WorldSince S.faults S.unreported base self.old → IfOk result (λ said. Leaves said self.old self.new) }
         ensures phase { ByPhase (of_mounting self.old.phase) result }
+        ensures tells { WhileMounting S.state self.old.phase result self.new.phase }
+        ensures live { (m : LogMachine) → WorldLives S.state self.old m → WorldLives S.state self.new m }
+        ensures stops { (m : LogMachine) → WorldLives S.state self.old m → StopsSafely self.old.number m (told S.state self.old) (told S.state self.new) }
     {
         match mem::replace(&mut self.phase, Phase::Gone) {
             Phase::Mounting(mut mounting) => match mounting.step(alloc) {
@@ -265,11 +299,15 @@ impl<S: ObjectStore> World<S> {
     }
 
     fn restart(&mut self) -> Result<Said, WorldRefusal>
+        ensures number { self.new.number ≡ self.old.number }
         ensures since { (base : ℕ) → WorldSince S.faults S.unreported base self.old → WorldSince S.faults S.unreported base self.new }
         ensures cause { (base : ℕ) → WorldSince S.faults S.unreported base self.old → IfErr result (λ e. IsFault e → HasFailed S.faults base self.new) }
         ensures answer { IfOk result (IsAnswerTo Step.Restart) }
         ensures leaves { (base : ℕ) → WorldSince S.faults S.unreported base self.old → IfOk result (λ said. Leaves said self.old self.new) }
         ensures phase { ByPhase (of_any self.old.phase) result }
+        ensures tells { IsRestarted S.state self.old.phase result self.new.phase }
+        ensures live { (m : LogMachine) → WorldLives S.state self.old m → WorldLives S.state self.new m }
+        ensures stops { (m : LogMachine) → WorldLives S.state self.old m → StopsSafely self.old.number m (told S.state self.old) (told S.state self.new) }
     {
         match mem::replace(&mut self.phase, Phase::Gone) {
             Phase::Stopped(mut store) => {

@@ -1,0 +1,7 @@
+pub mod Numbers
+pub mod Stays
+pub mod Replies
+pub mod Between
+pub mod Refused
+pub mod Carried
+pub mod Waits

@@ -1,0 +1,51 @@
+-- The number of a mount and of a rank, which no call changes.
+use Rattle.std.proofs.Common.{◌≡◌, Bool, true, false, Option, Some, None, refl, ap, ◌∙◌}
+use Rattle.mj_event.specs.declared.Event.{Event}
+use Rattle.mj_tree.specs.declared.change.Decision.{Decision}
+use Rattle.mj_tree.specs.declared.request.ClientRequest.{ClientRequest}
+use Rattle.mj_store.specs.State.{StoreState}
+use Rattle.mj_rank.specs.declared.answers.Reaped.{Reaped}
+use Rattle.mj_rank.specs.declared.answers.Reaped.TheVariants.{One, Nothing}
+use Rattle.mj_rank.specs.declared.answers.Span.{Span}
+use Rattle.mj_rank.specs.declared.mounting.Mounting.{Mounting}
+use Rattle.mj_rank.specs.declared.rank.Rank.{Rank}
+use Rattle.mj_rank.specs.Mounts.{KeepsFound, first_value}
+use Rattle.mj_rank.specs.Request.{RankValue, value_of, decided, event_in, with_answer, after_request}
+use Rattle.mj_rank.specs.Sending.{Sends, Flushes, Acknowledges}
+use Rattle.std.specs.Prelude.{◌==◌}
+
+-- ---- of a rank
+
+of_answer : (v : RankValue) (r : ClientRequest) (d : Decision) (o : Option Event) → (with_answer v r d o).number ≡ v.number
+of_answer v r d None = refl
+of_answer v r d (Some e) = refl
+
+-- equal values have the same number
+pub number_is : {S : Type 0} (old new : Rank S) (v : RankValue) → value_of new ≡ v → v.number ≡ old.number → new.number ≡ old.number
+number_is old new v e h = ap (λ (x : RankValue). x.number) e ∙ h
+
+pub number_after : {S : Type 0} (old new : Rank S) (r : ClientRequest) → value_of new ≡ after_request (value_of old) r → new.number ≡ old.number
+number_after old new r e = number_is old new (after_request (value_of old) r) e (of_answer (value_of old) r (decided (value_of old) r) (event_in (value_of old) r))
+
+sent_number : {S : Type 0} (state : S → Option StoreState) (b : Bool) (old new : Rank S) → Sends state b old new → new.number ≡ old.number
+sent_number state true old new h = ap (λ (x : RankValue). x.number) h.0
+sent_number state false old new h = ap (λ (x : RankValue). x.number) h.1
+
+pub number_flushed : {S : Type 0} (state : S → Option StoreState) (span : Span) (old new : Rank S) → Flushes state span old new → new.number ≡ old.number
+number_flushed state span old new h = sent_number state (span.to == span.from) old new h.1
+
+pub number_reaped : {S : Type 0} (reaped : Reaped) (old new : Rank S) → Acknowledges reaped old new → new.number ≡ old.number
+number_reaped (One op from to) old new h = ap (λ (x : RankValue). x.number) h.0
+number_reaped Nothing old new h = ap (λ (x : RankValue). x.number) h
+
+-- ---- of a mount
+
+pub number_carried : {S : Type 0} (old new : Mounting S) (rank : Rank S) → KeepsFound old new → value_of rank ≡ first_value new → rank.number ≡ old.number
+number_carried old new rank kept value = ap (λ (x : RankValue). x.number) value ∙ kept.number
+
+-- but for its store it is the same
+pub number_same : {S : Type 0} (old new : Mounting S) → new ≡ record old { store = new.store } → new.number ≡ old.number
+number_same {S = S} old new e = ap (λ (x : Mounting S). x.number) e
+
+pub number_value : {S : Type 0} (old new : Rank S) → value_of new ≡ value_of old → new.number ≡ old.number
+number_value old new e = ap (λ (x : RankValue). x.number) e
