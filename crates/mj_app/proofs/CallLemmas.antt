@@ -1,22 +1,27 @@
 -- What a call says, by its status.
-use Rattle.std.proofs.Common.{◌≡◌, ℕ, ◌≤◌, inl, inr, cond, eqb, List, [], length, Option, Some, None, IsSomeAnd, String, Ok, Err, refl, sym, ap, subst, ◌∙◌, arith, append-nil}
+use Rattle.std.proofs.Common.{◌≡◌, ℕ, ◌≤◌, inl, inr, ◌+◌, cond, eqb, List, [], length, Option, Some, None, IsSomeAnd, String, Ok, Err, refl, sym, ap, subst, ◌∙◌, arith, append-nil}
 use Rattle.std.specs.Global.{Global}
 use Rattle.mj_base.specs.Counts.{Rose}
 use Rattle.mj_base.specs.Sink.{then_taken}
 use Rattle.mj_base.specs.Files.{FilesByName}
 use Rattle.mj_base.specs.declared.files.TheConstants.{MAX_FILE_BYTES}
+use Rattle.mj_store.specs.Causes.{Listed}
+use Rattle.mj_store.specs.Moves.{Stays}
+use Rattle.mj_store.specs.State.{StoreState}
 use Rattle.mj_lines.specs.Script.{script_of}
 use Rattle.mj_lines.specs.declared.line.Line.{Line}
+use Rattle.mj_lines.specs.declared.answer.Answer.{Answer}
 use Rattle.mj_app.specs.declared.read.ReadRefusal.{ReadRefusal}
 use Rattle.mj_app.specs.declared.read.ReadRefusal.TheVariants as read
 use Rattle.mj_app.specs.declared.status.Status.{Status}
 use Rattle.mj_app.specs.declared.status.Status.TheVariants.{Done, Damage, Words, Memory, Store, Files, Grammar, Sink}
 use Rattle.mj_app.specs.Status.{code_of}
 use Rattle.mj_app.specs.Read.{script_file, IsScript, IsReadRefusal}
-use Rattle.mj_app.specs.Run.{SinkState, TookNone, TookOrFailed, FailsToStart, StartSays, RunSays, PlaySays}
+use Rattle.mj_app.specs.Took.{SinkState, TookNone, TookOrFailed}
+use Rattle.mj_app.specs.Run.{OverRestarted, LineEnds, StartEnds, RunSays, PlaySays}
 use Rattle.mj_app.specs.Say.{HasFixedText}
 use Rattle.mj_app.specs.Call.{FilesState, status_of, EndsWith, TellsMissing, TellsLong, TellsOutside, EndSays, IsExact, RefusalEnds, CallSays}
-use Rattle.mj_app.proofs.RunLemmas.{took_nothing}
+use Rattle.mj_app.proofs.RunLemmas.{run_failed}
 
 -- ---- codes
 
@@ -43,47 +48,56 @@ same_status s t e = sym (status_at-code s) ∙ ap status_at e ∙ status_at-code
 raised : (base before now : ℕ) → base ≤ before → Rose before now → Rose base now
 raised base before now le rose = omega arith
 
-pub starts_badly : (s : Status) (lines : List Line) (faults now : ℕ) (old new : SinkState) → faults ≡ now → old.faults ≤ new.faults → StartSays s faults old new → PlaySays s lines now old new
-starts_badly Done lines faults now old new e later h = absurd h
-starts_badly Damage lines faults now old new e later h = absurd h
-starts_badly Words lines faults now old new e later h = absurd h
-starts_badly Memory lines faults now old new e later h = record { answers = []; says = record { said = tt; text = took_nothing old new h; later = later } }
-starts_badly Store lines faults now old new e later h = inr (subst (λ n. FailsToStart n old new) e h)
-starts_badly Files lines faults now old new e later h = absurd h
-starts_badly Grammar lines faults now old new e later h = absurd h
-starts_badly Sink lines faults now old new e later h = absurd h
+-- what failed in an answer that goes on
+cut_turn : (n : ℕ) (told : Option Answer) (old new : SinkState) → LineEnds Sink n told old new → Rose old.faults new.faults
+cut_turn n None old new h = absurd h
+cut_turn n (Some a) old new h = h.1.rose
 
-pub runs : (s : Status) (lines : List Line) (faults : ℕ) (old new : SinkState) → RunSays s lines old new → PlaySays s lines faults old new
-runs Done lines faults old new h = h
-runs Damage lines faults old new h = h
-runs Words lines faults old new h = h
-runs Memory lines faults old new h = h
-runs Store lines faults old new h = inl h
-runs Files lines faults old new h = h
-runs Grammar lines faults old new h = h
-runs Sink lines faults old new h = h
+module _ {S : Type 0} (state : S → Option StoreState) (faults : S → ℕ) (unreported : S → List Listed) (before after : S) (old new : SinkState) where
+  pub runs : (s : Status) (lines : List Line) → OverRestarted state faults unreported before after (RunSays state faults unreported s lines old new) → PlaySays state faults unreported s lines before after old new
+  runs Done lines h = h
+  runs Damage lines h = h
+  runs Words lines h = h
+  runs Memory lines h = inl h
+  runs Store lines h = inl h
+  runs Files lines h = h
+  runs Grammar lines h = h
+  runs Sink lines h = h
 
-module _ {S : Type 0} (faults : S → ℕ) (words : List (String Global)) (files files_after : FilesState) (old new : SinkState) where
-  pub played : (s : Status) (lines : List Line) (store store_after : S) → IsScript files.told words lines → PlaySays s lines (faults store_after) old new → (s ≡ Store → Rose (faults store) (faults store_after)) → EndSays faults words files files_after store store_after old new s
-  played Done lines store store_after script h rose = (lines, script, h)
-  played Damage lines store store_after script h rose = (lines, script, h)
-  played Words lines store store_after script h rose = absurd h
-  played Memory lines store store_after script h rose = inr (lines, script, h)
-  played Store lines store store_after script h rose = (rose refl, (lines, script, h))
-  played Files lines store store_after script h rose = absurd h
-  played Grammar lines store store_after script h rose = absurd h
-  played Sink lines store store_after script h rose = (raised old.faults h.middle.faults new.faults h.says.later h.ends.1.rose, (lines, script, h))
+  pub fails_to_start : (s : Status) (lines : List Line) → Stays (state before) (state after) → Rose (faults before) (faults after) → StartEnds s (faults after) old new → PlaySays state faults unreported s lines before after old new
+  fails_to_start Done lines stays rose h = absurd h
+  fails_to_start Damage lines stays rose h = absurd h
+  fails_to_start Words lines stays rose h = absurd h
+  fails_to_start Memory lines stays rose h = inr (record { stays = stays; rose = rose; text = h })
+  fails_to_start Store lines stays rose h = inr (record { stays = stays; rose = rose; text = h })
+  fails_to_start Files lines stays rose h = absurd h
+  fails_to_start Grammar lines stays rose h = absurd h
+  fails_to_start Sink lines stays rose h = absurd h
+
+module _ {S : Type 0} (state : S → Option StoreState) (faults : S → ℕ) (unreported : S → List Listed) (words : List (String Global)) (files files_after : FilesState) (old new : SinkState) where
+  pub played : (s : Status) (lines : List Line) (before after : S) → IsScript files.told words lines → PlaySays state faults unreported s lines before after old new → EndSays state faults unreported words files files_after before after old new s
+  played Done lines before after script h = (lines, script, h)
+  played Damage lines before after script h = (lines, script, h)
+  played Words lines before after script h = absurd h.over.says
+  played Memory lines before after script h = inr (lines, script, h)
+  played Store lines before after script (inl h) = (run_failed state faults unreported before after lines old new h, (lines, script, inl h))
+  played Store lines before after script (inr h) = (h.rose, (lines, script, inr h))
+  played Files lines before after script h = absurd h.over.says
+  played Grammar lines before after script h = absurd h.over.says
+  played Sink lines before after script h =
+      let e = h.over.says in
+      (raised old.faults e.middle.faults new.faults e.later (cut_turn (length e.worked + 1) e.ending.told e.middle new e.ends), (lines, script, h))
 
   -- ---- a refusal
 
-  pub refused : (s : Status) (why : ReadRefusal) (store : S) → IsReadRefusal files.told files.faults files_after.faults words why → RefusalEnds why old new s → EndSays faults words files files_after store store old new s
-  refused s why store h (inr e) = subst (EndSays faults words files files_after store store old new) (sym e.0) (inl e.1)
-  refused s read.Words store h (inl e) = subst (EndSays faults words files files_after store store old new) (sym e.0) (h, (read.Words, refl, h, e.1), refl)
-  refused s read.FileMissing store h (inl e) = subst (EndSays faults words files files_after store store old new) (sym e.0) (inl h, (read.FileMissing, refl, h, e.1), refl)
-  refused s (read.FileTooLong n) store h (inl e) = subst (EndSays faults words files files_after store store old new) (sym e.0) (inr (inl (n, h)), (read.FileTooLong n, refl, h, e.1), refl)
-  refused s read.FileFault store h (inl e) = subst (EndSays faults words files files_after store store old new) (sym e.0) (inr (inr h), (read.FileFault, refl, h, e.1), refl)
-  refused s (read.BadLine n) store h (inl e) = subst (EndSays faults words files files_after store store old new) (sym e.0) ((n, h), (read.BadLine n, refl, h, e.1), refl)
-  refused s read.Memory store h (inl e) = subst (EndSays faults words files files_after store store old new) (sym e.0) (inl (by e.1))
+  pub refused : (s : Status) (why : ReadRefusal) (store : S) → IsReadRefusal files.told files.faults files_after.faults words why → RefusalEnds why old new s → EndSays state faults unreported words files files_after store store old new s
+  refused s why store h (inr e) = subst (EndSays state faults unreported words files files_after store store old new) (sym e.0) (inl (e.1, refl))
+  refused s read.Words store h (inl e) = subst (EndSays state faults unreported words files files_after store store old new) (sym e.0) (h, (read.Words, refl, h, e.1), refl)
+  refused s read.FileMissing store h (inl e) = subst (EndSays state faults unreported words files files_after store store old new) (sym e.0) (inl h, (read.FileMissing, refl, h, e.1), refl)
+  refused s (read.FileTooLong n) store h (inl e) = subst (EndSays state faults unreported words files files_after store store old new) (sym e.0) (inr (inl (n, h)), (read.FileTooLong n, refl, h, e.1), refl)
+  refused s read.FileFault store h (inl e) = subst (EndSays state faults unreported words files files_after store store old new) (sym e.0) (inr (inr h), (read.FileFault, refl, h, e.1), refl)
+  refused s (read.BadLine n) store h (inl e) = subst (EndSays state faults unreported words files files_after store store old new) (sym e.0) ((n, h), (read.BadLine n, refl, h, e.1), refl)
+  refused s read.Memory store h (inl e) = subst (EndSays state faults unreported words files files_after store store old new) (sym e.0) (inl (by e.1, refl))
     where
       nothing : (o : Option (List ℕ)) → then_taken [] o ≡ o
       nothing None = refl
@@ -95,8 +109,8 @@ module _ {S : Type 0} (faults : S → ℕ) (words : List (String Global)) (files
 
   -- ---- a call
 
-  pub call_says : (s : Status) (store store_after : S) (code : ℕ) → code ≡ code_of s → EndSays faults words files files_after store store_after old new s → IsExact words files files_after s → CallSays faults words files files_after store store_after old new code
-  call_says s store store_after code is h exact = let at : (t : Status) → code ≡ code_of t → EndSays faults words files files_after store store_after old new t = λ t e. subst (EndSays faults words files files_after store store_after old new) (same_status s t (sym is ∙ e)) h in record {
+  pub call_says : (s : Status) (store store_after : S) (code : ℕ) → code ≡ code_of s → EndSays state faults unreported words files files_after store store_after old new s → IsExact words files files_after s → CallSays state faults unreported words files files_after store store_after old new code
+  call_says s store store_after code is h exact = let at : (t : Status) → code ≡ code_of t → EndSays state faults unreported words files files_after store store_after old new t = λ t e. subst (EndSays state faults unreported words files files_after store store_after old new) (same_status s t (sym is ∙ e)) h in record {
     done = at Done;
     damage = at Damage;
     words = (λ e. (at Words e).0, λ e. is ∙ ap code_of (exact.words e));

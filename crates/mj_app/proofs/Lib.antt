@@ -1,3 +1,15 @@
+pub mod TookLemmas
+pub mod WorldsLemmas
+pub mod MountActs
 pub mod RunLemmas
 pub mod CallLemmas
+pub mod TurnTexts
+pub mod Fits
+pub mod MadeFits
+pub mod LineReads
+pub mod ActReads
+pub mod NeverWaits
+pub mod LinesRead
+pub mod Leaving
+pub mod HeadlineLemmas
 pub mod FormattedLemmas

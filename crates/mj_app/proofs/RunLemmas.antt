@@ -1,110 +1,152 @@
 -- A run, one line after another.
-use Rattle.std.proofs.Common.{◌≡◌, ℕ, ◌+◌, ◌≤◌, ◌<◌, List, [], ◌∷◌, ◌++◌, length, get_or, drop, Option, Some, None, Result, Ok, Err, IsErrOf, refl, sym, ap, subst, ◌∙◌, arith, append_assoc, append-nil}
-use Rattle.std.proofs.lemmas.List.{drop_more}
-use Rattle.mj_base.specs.Sink.{then_taken}
+use Rattle.std.proofs.Common.{◌≡◌, ℕ, ◌+◌, ◌≤◌, ◌<◌, List, [], ◌∷◌, ◌++◌, length, get_or, drop, Option, Some, None, refl, sym, ap, subst, ◌∙◌, arith, append_assoc, append-nil}
+use Rattle.std.proofs.lemmas.List.{drop_all, drop_more, length_push, map-append}
+use Rattle.mj_base.specs.Counts.{Rose}
+use Rattle.mj_store.specs.Causes.{Listed}
+use Rattle.mj_store.specs.State.{StoreState}
+use Rattle.mj_world.specs.declared.world.World.{World}
+use Rattle.mj_world.specs.World.{WorldSince}
 use Rattle.mj_lines.specs.declared.line.Line.{Line}
 use Rattle.mj_lines.specs.declared.answer.Answer.{Answer}
+use Rattle.mj_lines.specs.declared.answer.Answer.TheVariants as answer
 use Rattle.mj_app.specs.declared.status.Status.{Status}
 use Rattle.mj_app.specs.declared.status.Status.TheVariants.{Done, Damage, Words, Memory, Store, Files, Grammar, Sink}
-use Rattle.mj_app.specs.Answers.{IsStoreFault, MaySay, GoesOn, HaveSaid, AnswersFirst}
-use Rattle.mj_app.specs.Run.{SinkState, TookAll, TookNone, said, all_said, TurnEnds, TurnSays, LineEnds, Says, SaysAll, EndsAt, RunSays}
+use Rattle.mj_app.specs.Answers.{GoesOn}
+use Rattle.mj_app.specs.Took.{SinkState, TookAll}
+use Rattle.mj_app.specs.LineActs.{LineActs}
+use Rattle.mj_app.specs.Worlds.{world_after}
+use Rattle.mj_app.specs.Run.{OverRestarted, Worked, Works, WorksTo, AllWorked, SaysAll, EndsAt, LineEnds, RunSays, said, all_said, lines_of, world_behind}
+use Rattle.mj_app.proofs.TookLemmas.{took_nothing, took_more}
+use Rattle.mj_app.proofs.WorldsLemmas.{acts_since, opens_since, failed_held, works_failed}
 
 -- ---- texts
 
--- nothing is a text with nothing in it
-pub took_nothing : (old new : SinkState) → TookNone old new → TookAll [] old new
-took_nothing old new e = e ∙ by old.taken
-  where
-    by : (o : Option (List ℕ)) → o ≡ then_taken [] o
-    by None = refl
-    by (Some t) = ap Some (sym (append-nil t))
-
-took_more : (xs ys : List ℕ) (old middle new : SinkState) → TookAll xs old middle → TookAll ys middle new → TookAll (xs ++ ys) old new
-took_more xs ys old middle new f g = g ∙ ap (then_taken ys) f ∙ by old.taken
-  where
-    by : (o : Option (List ℕ)) → then_taken ys (then_taken xs o) ≡ then_taken (xs ++ ys) o
-    by None = refl
-    by (Some t) = ap Some (append_assoc t xs ys)
-
-said_more : (n : ℕ) (answers : List (Option Answer)) (a : Option Answer) → all_said n (answers ++ a ∷ []) ≡ all_said n answers ++ said (n + length answers) a
-said_more n [] a = let same : n ≡ n + 0 = omega arith in append-nil (said n a) ∙ ap (λ k. said k a) same
-said_more n (b ∷ answers) a =
-    let same : n + 1 + length answers ≡ n + length (b ∷ answers) = omega arith in
-    ap (λ t. said n b ++ t) (said_more (n + 1) answers a) ∙ sym (append_assoc (said n b) (all_said (n + 1) answers) (said (n + 1 + length answers) a))
-    ∙ ap (λ k. (said n b ++ all_said (n + 1) answers) ++ said k a) same
+pub said_more : {S : Type 0} (n : ℕ) (ws : List (Worked S)) (w : Worked S) → all_said n (ws ++ w ∷ []) ≡ all_said n ws ++ said (n + length ws) w.told
+said_more n [] w = let same : n ≡ n + 0 = omega arith in append-nil (said n w.told) ∙ ap (λ k. said k w.told) same
+said_more n (v ∷ ws) w =
+    let same : n + 1 + length ws ≡ n + length (v ∷ ws) = omega arith in
+    ap (λ t. said n v.told ++ t) (said_more (n + 1) ws w) ∙ sym (append_assoc (said n v.told) (all_said (n + 1) ws) (said (n + 1 + length ws) w.told))
+    ∙ ap (λ k. (said n v.told ++ all_said (n + 1) ws) ++ said k w.told) same
 
 -- ---- lines
-
-have_said_more : (lines : List Line) (answers : List (Option Answer)) (line : Line) (rest : List Line) (a : Option Answer) → HaveSaid lines answers → drop (length answers) lines ≡ line ∷ rest → MaySay line a → GoesOn a → HaveSaid lines (answers ++ a ∷ [])
-have_said_more [] [] line rest a h e may goes = absurd cc
-have_said_more (l ∷ lines) [] line rest a h e may goes = let same : line ≡ l = cc in (subst (λ x. MaySay x a) same may, goes, tt)
-have_said_more [] (b ∷ answers) line rest a h e may goes = absurd h
-have_said_more (l ∷ lines) (b ∷ answers) line rest a h e may goes = (h.0, h.1, have_said_more lines answers line rest a h.2 e may goes)
-
--- the first i lines have said their answers
-pub record SaysUpTo (i : ℕ) (lines : List Line) (old new : SinkState) : Type 0 where
-  pub answers : List (Option Answer)
-  pub says : Says lines answers old new
-  pub count : length answers ≡ i
-
-pub says_none : (lines : List Line) (sink : SinkState) → SaysUpTo 0 lines sink sink
-says_none lines sink = record { answers = []; says = record { said = tt; text = took_nothing sink sink refl; later = omega arith }; count = refl }
-
-pub says_more : (i : ℕ) (lines : List Line) (line : Line) (rest : List Line) (a : Option Answer) (old middle new : SinkState) → SaysUpTo i lines old middle → drop i lines ≡ line ∷ rest → MaySay line a → GoesOn a → TookAll (said (i + 1) a) middle new → middle.faults ≤ new.faults → SaysUpTo (i + 1) lines old new
-says_more i lines line rest a old middle new s e may goes took later =
-    let first : drop (length s.answers) lines ≡ line ∷ rest = ap (λ n. drop n lines) s.count ∙ e in
-    let number : i + 1 ≡ 1 + length s.answers = omega (arith, s.count) in
-    record {
-      answers = s.answers ++ a ∷ [];
-      says = record {
-        said = have_said_more lines s.answers line rest a s.says.said first may goes;
-        text = subst (λ t. TookAll t old new) (sym (said_more 1 s.answers a)) (took_more (all_said 1 s.answers) (said (1 + length s.answers) a) old middle new s.says.text (subst (λ n. TookAll (said n a) middle new) number took));
-        later = omega (arith, s.says.later);
-      };
-      count = omega (arith, s.count, one_more s.answers a);
-    }
-  where
-    one_more : (answers : List (Option Answer)) (a : Option Answer) → length (answers ++ a ∷ []) ≡ length answers + 1
-    one_more [] a = refl
-    one_more (b ∷ answers) a = omega (arith, one_more answers a)
-
--- ---- ends
-
-first_answered : (line : Line) (rest lines : List Line) (a : Answer) → lines ≡ line ∷ rest → MaySay line (Some a) → AnswersFirst a lines
-first_answered line rest lines a e may = subst (AnswersFirst a) (sym e) may
-
-ends_at : (s : Status) (i : ℕ) (lines : List Line) (line : Line) (rest : List Line) (a : Answer) (old middle new : SinkState) → SaysUpTo i lines old middle → drop i lines ≡ line ∷ rest → MaySay line (Some a) → TurnEnds s (i + 1) a middle new → EndsAt s lines old new
-ends_at s i lines line rest a old middle new says e may ends = record {
-  answers = says.answers;
-  middle = middle;
-  says = says.says;
-  last = a;
-  answered = first_answered line rest _ a (ap (λ n. drop n lines) says.count ∙ e) may;
-  ends = subst (λ n. TurnEnds s (n + 1) a middle new) (sym says.count) ends;
-}
-
--- the line behind the first i ends the run
-pub run_ends : (s : Status) (i : ℕ) (lines : List Line) (line : Line) (rest : List Line) (old middle new : SinkState) → SaysUpTo i lines old middle → drop i lines ≡ line ∷ rest → LineEnds s (i + 1) line middle new → middle.faults ≤ new.faults → RunSays s lines old new
-run_ends Done i lines line rest old middle new says e h later = absurd h.2
-run_ends Damage i lines line rest old middle new says e h later = ends_at Damage i lines line rest h.0 old middle new says e h.1 h.2
-run_ends Words i lines line rest old middle new says e h later = absurd h.2
-run_ends Memory i lines line rest old middle new says e h later = record {
-  answers = says.answers;
-  says = record { said = says.says.said; text = h ∙ says.says.text; later = omega (arith, says.says.later) };
-}
-run_ends Store i lines line rest old middle new says e h later = ends_at Store i lines line rest h.0 old middle new says e h.1 h.2
-run_ends Files i lines line rest old middle new says e h later = absurd h.2
-run_ends Grammar i lines line rest old middle new says e h later = absurd h.2
-run_ends Sink i lines line rest old middle new says e h later = ends_at Sink i lines line rest h.0 old middle new says e h.1 h.2
-
-pub run_done : (i : ℕ) (lines : List Line) (old new : SinkState) → SaysUpTo i lines old new → length lines ≤ i → i ≤ length lines → SaysAll lines old new
-run_done i lines old new says past within = record { answers = says.answers; says = says.says; all = omega (arith, says.count) }
-
--- what ends a line as a fault of the store is told as one
-pub store_turn : {T : Type 0} (n : ℕ) (a : Answer) (old new : SinkState) (r : Result T Status) → TurnSays n a old new r → IsErrOf r Store → IsStoreFault a
-store_turn n a old new (Ok x) h e = absurd cc
-store_turn n a old new (Err s) h e = let same : s ≡ Store = cc in (subst (λ t. TurnEnds t n a old new) same h).0
 
 -- the i-th line begins those that are left
 pub line_at : (lines : List Line) (i : ℕ) (line : Line) → i < length lines → line ≡ get_or lines i line → drop i lines ≡ line ∷ drop (i + 1) lines
 line_at lines i line lt is = drop_more lines i line lt ∙ ap (λ x. x ∷ drop (i + 1) lines) (sym is)
+
+behind_more : {S : Type 0} (old : World S) (ws : List (Worked S)) (w : Worked S) (middle new : World S) → middle ≡ world_behind old ws → new ≡ world_after middle w.acts → new ≡ world_behind old (ws ++ w ∷ [])
+behind_more old [] w middle new is e = e ∙ ap (λ x. world_after x w.acts) is
+behind_more old (v ∷ ws) w middle new is e = behind_more (world_after old v.acts) ws w middle new is e
+
+module _ {S : Type 0} (state : S → Option StoreState) (faults : S → ℕ) (unreported : S → List Listed) where
+  -- the line with its acts
+  abbrev pub worked_of : {line : Line} {old new : World S} {told : Option Answer} → WorksTo state faults unreported line old told new → Worked S
+  worked_of {line} {told = told} w = record { line = line; acts = w.acts; told = told }
+
+  pub works_of : {line : Line} {old new : World S} {told : Option Answer} (w : WorksTo state faults unreported line old told new) → Works state faults unreported old (worked_of w)
+  works_of w = record { worlds = w.worlds; acts = w.steps }
+
+  all_more : (old : World S) (ws : List (Worked S)) (w : Worked S) → AllWorked state faults unreported old ws → Works state faults unreported (world_behind old ws) w → GoesOn w.line w.told → AllWorked state faults unreported old (ws ++ w ∷ [])
+  all_more old [] w all works goes = (works, goes, tt)
+  all_more old (v ∷ ws) w all works goes = (all.0, all.1, all_more (world_after old v.acts) ws w all.2 works goes)
+
+  pub behind_since : (old : World S) (ws : List (Worked S)) → AllWorked state faults unreported old ws → (base : ℕ) → WorldSince faults unreported base old → WorldSince faults unreported base (world_behind old ws)
+  behind_since old [] all base h = h
+  behind_since old (w ∷ ws) all base h = behind_since (world_after old w.acts) ws all.2 base (acts_since state faults unreported old w.acts all.0.worlds base h)
+
+  -- ---- a run on its way
+
+  -- the first i lines were worked
+  pub record UpTo (i : ℕ) (lines : List Line) (old new : SinkState) (first last : World S) : Type 0 where
+    pub worked : List (Worked S)
+    pub lines_are : lines ≡ lines_of worked ++ drop i lines
+    pub works : AllWorked state faults unreported first worked
+    pub last_is : last ≡ world_behind first worked
+    pub text : TookAll (all_said 1 worked) old new
+    pub later : old.faults ≤ new.faults
+    pub count : length worked ≡ i
+
+  pub up_to_none : (lines : List Line) (sink : SinkState) (first : World S) → UpTo 0 lines sink sink first first
+  up_to_none lines sink first = record { worked = []; lines_are = refl; works = tt; last_is = refl; text = took_nothing sink sink refl; later = omega arith; count = refl }
+
+  -- what holds of its last world since the first
+  pub up_to_since : {i : ℕ} {lines : List Line} {old new : SinkState} {first last : World S} → UpTo i lines old new first last → (base : ℕ) → WorldSince faults unreported base first → WorldSince faults unreported base last
+  up_to_since {first = first} u base h = subst (WorldSince faults unreported base) (sym u.last_is) (behind_since first u.worked u.works base h)
+
+  lines_more : (ws : List (Worked S)) (w : Worked S) (rest lines : List Line) → lines ≡ lines_of ws ++ w.line ∷ rest → lines ≡ lines_of (ws ++ w ∷ []) ++ rest
+  lines_more ws w rest lines e =
+      e ∙ sym (append_assoc (lines_of ws) (w.line ∷ []) rest) ∙ ap (λ ls. ls ++ rest) (sym (map-append (λ (v : Worked S). v.line) ws (w ∷ [])))
+
+  pub up_to_more : (i : ℕ) (lines : List Line) (line : Line) {told : Option Answer} (old middle new : SinkState) (first at next : World S) → UpTo i lines old middle first at → drop i lines ≡ line ∷ drop (i + 1) lines
+      → WorksTo state faults unreported line at told next → GoesOn line told → TookAll (said (i + 1) told) middle new → middle.faults ≤ new.faults → UpTo (i + 1) lines old new first next
+  up_to_more i lines line {told} old middle new first at next u e w goes took later =
+      let number : i + 1 ≡ 1 + length u.worked = omega (arith, u.count) in
+      record {
+        worked = u.worked ++ worked_of w ∷ [];
+        lines_are = lines_more u.worked (worked_of w) (drop (i + 1) lines) lines (u.lines_are ∙ ap (λ ls. lines_of u.worked ++ ls) e);
+        works = all_more first u.worked (worked_of w) u.works (subst (λ x. Works state faults unreported x (worked_of w)) u.last_is (works_of w)) goes;
+        last_is = behind_more first u.worked (worked_of w) at next u.last_is w.last;
+        text = subst (λ t. TookAll t old new) (sym (said_more 1 u.worked (worked_of w))) (took_more (all_said 1 u.worked) (said (1 + length u.worked) told) old middle new u.text (subst (λ n. TookAll (said n told) middle new) number took));
+        later = omega (arith, u.later);
+        count = omega (arith, u.count, length_push u.worked (worked_of w));
+      }
+
+  -- ---- ends
+
+  ends_at : (s : Status) (i : ℕ) (lines : List Line) (line : Line) {told : Option Answer} (old middle new : SinkState) (first at last : World S) → UpTo i lines old middle first at → drop i lines ≡ line ∷ drop (i + 1) lines
+      → WorksTo state faults unreported line at told last → LineEnds s (i + 1) told middle new → EndsAt state faults unreported s lines old new first last
+  ends_at s i lines line {told} old middle new first at last u e w ends = record {
+    worked = u.worked;
+    ending = worked_of w;
+    rest = drop (i + 1) lines;
+    lines_are = u.lines_are ∙ ap (λ ls. lines_of u.worked ++ ls) e;
+    works = u.works;
+    ends_in = subst (λ x. Works state faults unreported x (worked_of w)) u.last_is (works_of w);
+    last_is = w.last ∙ ap (λ x. world_after x w.acts) u.last_is;
+    middle = middle;
+    text = u.text;
+    later = u.later;
+    ends = subst (λ n. LineEnds s (n + 1) told middle new) (sym u.count) ends;
+  }
+
+  no_end : (s : Status) (n : ℕ) (told : Option Answer) (old new : SinkState) → LineEnds s n told old new → ((a : Answer) → LineEnds s n (Some a) old new → ⊥) → (LineEnds s n None old new → ⊥) → ⊥
+  no_end s n None old new h some none = none h
+  no_end s n (Some a) old new h some none = some a h
+
+  -- the line behind the first i ends the run
+  pub run_ends : (s : Status) (i : ℕ) (lines : List Line) (line : Line) {told : Option Answer} (old middle new : SinkState) (first at last : World S) → UpTo i lines old middle first at → drop i lines ≡ line ∷ drop (i + 1) lines
+      → WorksTo state faults unreported line at told last → LineEnds s (i + 1) told middle new → RunSays state faults unreported s lines old new first last
+  run_ends Done i lines line {told} old middle new first at last u e w ends = absurd (no_end Done (i + 1) told middle new ends (λ a h. h) (λ h. h))
+  run_ends Damage i lines line old middle new first at last u e w ends = ends_at Damage i lines line old middle new first at last u e w ends
+  run_ends Words i lines line {told} old middle new first at last u e w ends = absurd (no_end Words (i + 1) told middle new ends (λ a h. h) (λ h. h))
+  run_ends Memory i lines line old middle new first at last u e w ends = ends_at Memory i lines line old middle new first at last u e w ends
+  run_ends Store i lines line old middle new first at last u e w ends = ends_at Store i lines line old middle new first at last u e w ends
+  run_ends Files i lines line {told} old middle new first at last u e w ends = absurd (no_end Files (i + 1) told middle new ends (λ a h. h) (λ h. h))
+  run_ends Grammar i lines line {told} old middle new first at last u e w ends = absurd (no_end Grammar (i + 1) told middle new ends (λ a h. h) (λ h. h))
+  run_ends Sink i lines line old middle new first at last u e w ends = ends_at Sink i lines line old middle new first at last u e w ends
+
+  pub run_done : (i : ℕ) (lines : List Line) (old new : SinkState) (first last : World S) → UpTo i lines old new first last → length lines ≤ i → SaysAll state faults unreported lines old new first last
+  run_done i lines old new first last u past = record {
+    worked = u.worked;
+    lines_are = u.lines_are ∙ ap (λ ls. lines_of u.worked ++ ls) (drop_all i lines past) ∙ append-nil (lines_of u.worked);
+    works = u.works;
+    last_is = u.last_is;
+    text = u.text;
+  }
+
+  -- ---- a fault of the store
+
+  -- a run that ends with one has seen the store's count rise
+  pub run_failed : (before after : S) (lines : List Line) (old new : SinkState) → OverRestarted state faults unreported before after (EndsAt state faults unreported Store lines old new) → Rose (faults before) (faults after)
+  run_failed before after lines old new o = by o.over.says.ending.told refl o.over.says.ends
+    where
+      open_since : WorldSince faults unreported (faults before) (world_behind o.over.first o.over.says.worked)
+      open_since = behind_since o.over.first o.over.says.worked o.over.says.works (faults before) (opens_since faults unreported o.store o.over.first o.over.opens o.restarted.none (faults before) o.restarted.later)
+
+      ending : (told : Option Answer) → o.over.says.ending.told ≡ told → WorksTo state faults unreported o.over.says.ending.line (world_behind o.over.first o.over.says.worked) told o.over.last
+      ending told is = record { acts = o.over.says.ending.acts; worlds = o.over.says.ends_in.worlds; steps = subst (λ t. LineActs o.over.says.ending.line o.over.says.ending.acts t) is o.over.says.ends_in.acts; last = o.over.says.last_is }
+
+      by : (told : Option Answer) → o.over.says.ending.told ≡ told → LineEnds Store (length o.over.says.worked + 1) told o.over.says.middle new → Rose (faults before) (faults after)
+      by None is h = absurd h
+      by (Some (answer.StoreFault n)) is h = failed_held faults (faults before) after o.over.last.phase (works_failed state faults unreported n (ending (Some (answer.StoreFault n)) is) (faults before) open_since) o.over.holds
+      by (Some _) is h = absurd h.0

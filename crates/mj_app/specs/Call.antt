@@ -4,6 +4,8 @@ use Rattle.std.specs.Global.{Global}
 use Rattle.mj_base.specs.Counts.{Rose}
 use Rattle.mj_base.specs.Files.{FilesByName, IfTold}
 use Rattle.mj_base.specs.declared.files.TheConstants.{MAX_FILE_BYTES}
+use Rattle.mj_store.specs.Causes.{Listed}
+use Rattle.mj_store.specs.State.{StoreState}
 use Rattle.mj_lines.specs.Script.{script_of}
 use Rattle.mj_lines.specs.declared.line.Line.{Line}
 use Rattle.mj_app.specs.declared.read.ReadRefusal.{ReadRefusal}
@@ -12,8 +14,9 @@ use Rattle.mj_app.specs.declared.status.Status.{Status}
 use Rattle.mj_app.specs.declared.status.Status.TheVariants as status
 use Rattle.mj_app.specs.Status.{code_of}
 use Rattle.mj_app.specs.Read.{script_file, IsScript, IsReadRefusal, NotHeld, Long, Outside}
-use Rattle.mj_app.specs.Run.{SinkState, TookNone, TookOrFailed, SaysFirst, SaysAll, EndsAt, FailsToStart}
+use Rattle.mj_app.specs.Run.{PlaySays}
 use Rattle.mj_app.specs.Say.{refusal_text}
+use Rattle.mj_app.specs.Took.{SinkState, TookNone, TookOrFailed}
 
 -- files by name, where they tell them, and their count of faults
 pub record FilesState : Type 0 where
@@ -67,25 +70,6 @@ TellsOutside words old new code = IfTold old.told (λ held. (name bytes : List �
 abbrev pub OfScript : List (String Global) → FilesState → (List Line → Type 0) → Type 0
 OfScript words files P = (lines : List Line) × IsScript files.told words lines × P lines
 
--- nothing, or what the first lines say
-abbrev pub SaysNoMore : List (String Global) → FilesState → SinkState → SinkState → Type 0
-SaysNoMore words files old new = TookNone old new ⊎ OfScript words files (λ lines. SaysFirst lines old new)
-
--- the store's fault ends the line that met it, or the restart before the first
-abbrev pub SaysStoreFault : List (String Global) → FilesState → ℕ → SinkState → SinkState → Type 0
-SaysStoreFault words files faults old new = OfScript words files (λ lines. EndsAt status.Store lines old new ⊎ FailsToStart faults old new)
-
--- what holds at the end of a call, by its status
-abbrev pub EndSays : {S : Type 0} → (S → ℕ) → List (String Global) → FilesState → FilesState → S → S → SinkState → SinkState → Status → Type 0
-EndSays faults words files files_after store store_after old new status.Done = OfScript words files (λ lines. SaysAll lines old new)
-EndSays faults words files files_after store store_after old new status.Damage = OfScript words files (λ lines. EndsAt status.Damage lines old new)
-EndSays faults words files files_after store store_after old new status.Words = (script_file words ≡ None) × SaysRefusal status.Words words files files_after old new × (store_after ≡ store)
-EndSays faults words files files_after store store_after old new status.Memory = SaysNoMore words files old new
-EndSays faults words files files_after store store_after old new status.Store = Rose (faults store) (faults store_after) × SaysStoreFault words files (faults store_after) old new
-EndSays faults words files files_after store store_after old new status.Files = FilesFail words files files_after × SaysRefusal status.Files words files files_after old new × (store_after ≡ store)
-EndSays faults words files files_after store store_after old new status.Grammar = IsOutside words files × SaysRefusal status.Grammar words files files_after old new × (store_after ≡ store)
-EndSays faults words files files_after store store_after old new status.Sink = Rose old.faults new.faults × OfScript words files (λ lines. EndsAt status.Sink lines old new)
-
 -- what must be told is told with its status
 pub record IsExact (given : List (String Global)) (told told_after : FilesState) (s : Status) : Type 0 where
   pub words : script_file given ≡ None → s ≡ status.Words
@@ -99,33 +83,52 @@ RefusalEnds why old new s = ((s ≡ status_of why) × TookOrFailed (refusal_text
 
 -- ---- all of it
 
--- What a call says by its code: of its words, of its files, store and sink before and after.
-pub record CallSays {S : Type 0} (faults : S → ℕ) (given : List (String Global)) (held held_after : FilesState) (before after : S) (old new : SinkState) (code : ℕ) : Type 0 where
-  -- every line was worked, and all text was taken
-  pub done : code ≡ 0 → OfScript given held (λ lines. SaysAll lines old new)
-  -- a line named damage
-  pub damage : code ≡ 1 → OfScript given held (λ lines. EndsAt status.Damage lines old new)
-  -- the words are not served
-  pub words : (code ≡ 2) ↔ (script_file given ≡ None)
-  pub words_text : code ≡ 2 → SaysRefusal status.Words given held held_after old new
-  -- memory was wanted
-  pub memory : code ≡ 4 → SaysNoMore given held old new
-  -- the store failed
-  pub store : code ≡ 5 → Rose (faults before) (faults after)
-  pub store_text : code ≡ 5 → SaysStoreFault given held (faults after) old new
-  -- the script is not there, or the files failed
-  pub files : code ≡ 6 → FilesFail given held held_after
-  pub files_text : code ≡ 6 → SaysRefusal status.Files given held held_after old new
-  pub missing : TellsMissing given held held_after code
-  pub long : TellsLong given held held_after code
-  -- a line is outside the grammar
-  pub outside : code ≡ 7 → IsOutside given held
-  pub outside_text : code ≡ 7 → SaysRefusal status.Grammar given held held_after old new
-  pub found : TellsOutside given held held_after code
-  -- the sink failed
-  pub sink : code ≡ 8 → Rose old.faults new.faults
-  pub cut : code ≡ 8 → OfScript given held (λ lines. EndsAt status.Sink lines old new)
-  -- no work was begun
-  pub untouched : (code ≡ 2) ⊎ (code ≡ 6) ⊎ (code ≡ 7) → after ≡ before
-  -- there are no other codes
-  pub known : (s : Status) × (code ≡ code_of s)
+module _ {S : Type 0} (state : S → Option StoreState) (faults : S → ℕ) (unreported : S → List Listed) where
+  -- what the lines of the script that was read did and said, over the store that was handed in
+  abbrev pub Plays : Status → List (String Global) → FilesState → S → S → SinkState → SinkState → Type 0
+  Plays s words files before after old new = OfScript words files (λ lines. PlaySays state faults unreported s lines before after old new)
+
+  -- Memory was wanted before any work, or in it.
+  abbrev pub SaysNoMore : List (String Global) → FilesState → S → S → SinkState → SinkState → Type 0
+  SaysNoMore words files before after old new = (TookNone old new × (after ≡ before)) ⊎ Plays status.Memory words files before after old new
+
+  -- what holds at the end of a call, by its status
+  abbrev pub EndSays : List (String Global) → FilesState → FilesState → S → S → SinkState → SinkState → Status → Type 0
+  EndSays words files files_after before after old new status.Words = (script_file words ≡ None) × SaysRefusal status.Words words files files_after old new × (after ≡ before)
+  EndSays words files files_after before after old new status.Memory = SaysNoMore words files before after old new
+  EndSays words files files_after before after old new status.Files = FilesFail words files files_after × SaysRefusal status.Files words files files_after old new × (after ≡ before)
+  EndSays words files files_after before after old new status.Grammar = IsOutside words files × SaysRefusal status.Grammar words files files_after old new × (after ≡ before)
+  EndSays words files files_after before after old new status.Store = Rose (faults before) (faults after) × Plays status.Store words files before after old new
+  EndSays words files files_after before after old new status.Sink = Rose old.faults new.faults × Plays status.Sink words files before after old new
+  EndSays words files files_after before after old new s = Plays s words files before after old new
+
+  -- What a call says by its code: of its words, of its files, store and sink before and after.
+  pub record CallSays (given : List (String Global)) (held held_after : FilesState) (before after : S) (old new : SinkState) (code : ℕ) : Type 0 where
+    -- every line was worked, and all text was taken
+    pub done : code ≡ 0 → Plays status.Done given held before after old new
+    -- a line named damage
+    pub damage : code ≡ 1 → Plays status.Damage given held before after old new
+    -- the words are not served
+    pub words : (code ≡ 2) ↔ (script_file given ≡ None)
+    pub words_text : code ≡ 2 → SaysRefusal status.Words given held held_after old new
+    -- memory was wanted
+    pub memory : code ≡ 4 → SaysNoMore given held before after old new
+    -- the store failed
+    pub store : code ≡ 5 → Rose (faults before) (faults after)
+    pub store_text : code ≡ 5 → Plays status.Store given held before after old new
+    -- the script is not there, or the files failed
+    pub files : code ≡ 6 → FilesFail given held held_after
+    pub files_text : code ≡ 6 → SaysRefusal status.Files given held held_after old new
+    pub missing : TellsMissing given held held_after code
+    pub long : TellsLong given held held_after code
+    -- a line is outside the grammar
+    pub outside : code ≡ 7 → IsOutside given held
+    pub outside_text : code ≡ 7 → SaysRefusal status.Grammar given held held_after old new
+    pub found : TellsOutside given held held_after code
+    -- the sink failed
+    pub sink : code ≡ 8 → Rose old.faults new.faults
+    pub cut : code ≡ 8 → Plays status.Sink given held before after old new
+    -- no work was begun
+    pub untouched : (code ≡ 2) ⊎ (code ≡ 6) ⊎ (code ≡ 7) → after ≡ before
+    -- there are no other codes
+    pub known : (s : Status) × (code ≡ code_of s)

@@ -1,8 +1,13 @@
 pub mod Status
+pub mod Took
+pub mod Say
 pub mod Read
+pub mod Told
+pub mod Worlds
+pub mod LineActs
 pub mod Answers
 pub mod Run
-pub mod Say
 pub mod Call
-pub mod Formatted
+pub mod Turns
+pub mod Headline
 pub mod Image

@@ -1,47 +1,52 @@
--- What a script says as it runs, and what a sink takes of it.
-use Rattle.std.specs.Prelude.{◌≡◌, ◌≤◌, ◌⊎◌, ℕ, ◌+◌, List, [], ◌∷◌, ◌++◌, length, drop, Option, Some, None, Result, Ok, Err}
+-- What a script does and says as it runs.
+--     Worked      a line, its acts, and what it was told
+--     AllWorked   lines were worked one after another over one list of worlds
+--     SaysAll     these are all lines of the script
+--     EndsAt      the line behind them ends it
+--     PlaySays    over the store that was handed in, to the one that is handed back
+use Rattle.std.specs.Prelude.{◌≡◌, ◌≤◌, ◌⊎◌, ℕ, ◌+◌, List, [], ◌∷◌, ◌++◌, map, length, Option, Some, None, Result, Ok, Err}
 use Rattle.mj_base.specs.Counts.{Rose}
-use Rattle.mj_base.specs.Sink.{then_taken, TakesFront}
+use Rattle.mj_store.specs.Causes.{Listed}
+use Rattle.mj_store.specs.Moves.{Stays}
+use Rattle.mj_store.specs.State.{StoreState}
+use Rattle.mj_world.specs.declared.world.World.{World}
 use Rattle.mj_lines.specs.Text.{turn_text}
 use Rattle.mj_lines.specs.declared.line.Line.{Line}
 use Rattle.mj_lines.specs.declared.answer.Answer.{Answer}
 use Rattle.mj_lines.specs.declared.answer.Answer.TheVariants as answer
 use Rattle.mj_app.specs.declared.status.Status.{Status}
 use Rattle.mj_app.specs.declared.status.Status.TheVariants as status
-use Rattle.mj_app.specs.Answers.{IsStoreFault, IsDamage, MaySay, GoesOn, IsLast, HaveSaid, AnswersFirst}
+use Rattle.mj_app.specs.Answers.{IsStoreFault, IsDamage, IsLast, GoesOn}
+use Rattle.mj_app.specs.LineActs.{LineActs}
+use Rattle.mj_app.specs.Took.{SinkState, TookAll, TookNone, FailedIn, TookOrFailed}
+use Rattle.mj_app.specs.Worlds.{Act, Worlds, IsRestarted, Over, world_after}
 
--- what a sink has taken, where it tells that, and its count of faults
-pub record SinkState : Type 0 where
-  pub taken : Option (List ℕ)
-  pub faults : ℕ
+pub record Worked (S : Type 0) : Type 0 where
+  pub line : Line
+  pub acts : List (Act S)
+  pub told : Option Answer
 
-abbrev pub sink_state : {K : Type 0} → (K → Option (List ℕ)) → (K → ℕ) → K → SinkState
-sink_state taken faults sink = record { taken = taken sink; faults = faults sink }
+-- the world after these lines
+abbrev pub world_behind : {S : Type 0} → World S → List (Worked S) → World S
+world_behind old [] = old
+world_behind old (w ∷ ws) = world_behind (world_after old w.acts) ws
 
--- the sink took all of a text
-abbrev pub TookAll : List ℕ → SinkState → SinkState → Type 0
-TookAll text old new = new.taken ≡ then_taken text old.taken
+abbrev pub lines_of : {S : Type 0} → List (Worked S) → List Line
+lines_of {S} ws = map (λ (w : Worked S). w.line) ws
 
--- it failed in a text, and took a front of it
-pub record FailedIn (text : List ℕ) (old new : SinkState) : Type 0 where
-  pub front : TakesFront text old.taken new.taken
-  pub rose : Rose old.faults new.faults
-
--- it took nothing
-abbrev pub TookNone : SinkState → SinkState → Type 0
-TookNone old new = new.taken ≡ old.taken
-
-abbrev pub TookOrFailed : List ℕ → SinkState → SinkState → Type 0
-TookOrFailed text old new = TookAll text old new ⊎ FailedIn text old new
-
--- ---- one line
+-- ---- texts
 
 -- what the n-th line says
 abbrev pub said : ℕ → Option Answer → List ℕ
 said n None = []
 said n (Some a) = turn_text n a
 
--- It ends the script by its answer, or because the sink fails in it.
+-- what the lines from the n-th on say
+abbrev pub all_said : {S : Type 0} → ℕ → List (Worked S) → List ℕ
+all_said n [] = []
+all_said n (w ∷ ws) = said n w.told ++ all_said (n + 1) ws
+
+-- An answer ends the script, or the sink fails in it, or memory is wanted for its text.
 abbrev pub TurnEnds : Status → ℕ → Answer → SinkState → SinkState → Type 0
 TurnEnds status.Memory n a old new = TookNone old new
 TurnEnds status.Damage n a old new = IsDamage a × TookOrFailed (turn_text n a) old new
@@ -53,67 +58,97 @@ abbrev pub TurnSays : {T : Type 0} → ℕ → Answer → SinkState → SinkStat
 TurnSays n a old new (Ok _) = (IsLast a → ⊥) × TookAll (turn_text n a) old new
 TurnSays n a old new (Err s) = TurnEnds s n a old new
 
+-- The restart before the first line is told as the answer to the line 0, or memory is wanted for that.
+abbrev pub StartEnds : Status → ℕ → SinkState → SinkState → Type 0
+StartEnds status.Store faults old new = TookOrFailed (turn_text 0 (answer.StoreFault faults)) old new
+StartEnds status.Memory faults old new = TookNone old new
+StartEnds _ faults old new = ⊥
+
 -- want of memory has no text
-abbrev pub LineEnds : Status → ℕ → Line → SinkState → SinkState → Type 0
-LineEnds status.Memory n line old new = TookNone old new
-LineEnds s n line old new = (a : Answer) × MaySay line (Some a) × TurnEnds s n a old new
+abbrev pub LineEnds : Status → ℕ → Option Answer → SinkState → SinkState → Type 0
+LineEnds s n (Some a) old new = TurnEnds s n a old new
+LineEnds status.Memory n None old new = TookNone old new
+LineEnds _ n None old new = ⊥
 
-abbrev pub LineSays : {T : Type 0} → ℕ → Line → SinkState → SinkState → Result T Status → Type 0
-LineSays n line old new (Ok _) = (a : Option Answer) × MaySay line a × GoesOn a × TookAll (said n a) old new
-LineSays n line old new (Err s) = LineEnds s n line old new
+-- what a line was told, where memory was not wanted
+abbrev pub answer_in : {E : Type 0} → Result Answer E → Option Answer
+answer_in (Ok a) = Some a
+answer_in (Err e) = None
 
--- ---- a run
+abbrev pub told_in : {E : Type 0} → Result (Option Answer) E → Option Answer
+told_in (Ok told) = told
+told_in (Err e) = None
 
--- what the lines from the n-th on say
-abbrev pub all_said : ℕ → List (Option Answer) → List ℕ
-all_said n [] = []
-all_said n (a ∷ answers) = said n a ++ all_said (n + 1) answers
+-- ---- lines over worlds
 
--- The first lines have said their answers, as many as there are, and the sink took all that.
-pub record Says (lines : List Line) (answers : List (Option Answer)) (old new : SinkState) : Type 0 where
-  pub said : HaveSaid lines answers
-  pub text : TookAll (all_said 1 answers) old new
-  pub later : old.faults ≤ new.faults
+module _ {S : Type 0} (state : S → Option StoreState) (faults : S → ℕ) (unreported : S → List Listed) where
+  -- the line was worked in this world
+  pub record Works (old : World S) (w : Worked S) : Type 0 where
+    pub worlds : Worlds state faults unreported old w.acts
+    pub acts : LineActs w.line w.acts w.told
 
--- so far, or until memory was wanted
-pub record SaysFirst (lines : List Line) (old new : SinkState) : Type 0 where
-  pub answers : List (Option Answer)
-  pub says : Says lines answers old new
+  -- so it was, and it led to that world
+  pub record WorksTo (line : Line) (old : World S) (told : Option Answer) (new : World S) : Type 0 where
+    pub acts : List (Act S)
+    pub worlds : Worlds state faults unreported old acts
+    pub steps : LineActs line acts told
+    pub last : new ≡ world_after old acts
 
--- all lines were worked, and all text was taken
-pub record SaysAll (lines : List Line) (old new : SinkState) : Type 0 where
-  pub answers : List (Option Answer)
-  pub says : Says lines answers old new
-  pub all : length answers ≡ length lines
+  -- The n-th line goes on with its text, or ends the script.
+  abbrev pub LineRuns : {T : Type 0} → ℕ → Line → World S → World S → SinkState → SinkState → Result T Status → Type 0
+  LineRuns n line old new before after (Ok _) = (told : Option Answer) × WorksTo line old told new × GoesOn line told × TookAll (said n told) before after
+  LineRuns n line old new before after (Err s) = (told : Option Answer) × WorksTo line old told new × LineEnds s n told before after
 
--- The line behind those that have said their answers ends the run with this status.
-pub record EndsAt (s : Status) (lines : List Line) (old new : SinkState) : Type 0 where
-  pub answers : List (Option Answer)
-  pub middle : SinkState
-  pub says : Says lines answers old middle
-  pub last : Answer
-  pub answered : AnswersFirst last (drop (length answers) lines)
-  pub ends : TurnEnds s (length answers + 1) last middle new
+  -- Each was worked in the world that the one before left, and the script went on after it.
+  abbrev pub AllWorked : World S → List (Worked S) → Type 0
+  AllWorked old [] = Unit {0}
+  AllWorked old (w ∷ ws) = Works old w × GoesOn w.line w.told × AllWorked (world_after old w.acts) ws
 
--- The restart before the first line has the number 0, and says that the store has failed so often.
-abbrev pub FailsToStart : ℕ → SinkState → SinkState → Type 0
-FailsToStart faults old new = TookOrFailed (turn_text 0 (answer.StoreFault faults)) old new
+  -- all lines were worked, and the sink took all that they said
+  pub record SaysAll (lines : List Line) (old new : SinkState) (first last : World S) : Type 0 where
+    pub worked : List (Worked S)
+    pub lines_are : lines ≡ lines_of worked
+    pub works : AllWorked first worked
+    pub last_is : last ≡ world_behind first worked
+    pub text : TookAll (all_said 1 worked) old new
 
-abbrev pub StartSays : Status → ℕ → SinkState → SinkState → Type 0
-StartSays status.Store faults old new = FailsToStart faults old new
-StartSays status.Memory faults old new = TookNone old new
-StartSays _ faults old new = ⊥
+  -- So it is with the first lines, and the one behind them ends the run with this status.
+  pub record EndsAt (s : Status) (lines : List Line) (old new : SinkState) (first last : World S) : Type 0 where
+    pub worked : List (Worked S)
+    pub ending : Worked S
+    pub rest : List Line
+    pub lines_are : lines ≡ lines_of worked ++ ending.line ∷ rest
+    pub works : AllWorked first worked
+    pub ends_in : Works (world_behind first worked) ending
+    pub last_is : last ≡ world_after (world_behind first worked) ending.acts
+    pub middle : SinkState
+    pub text : TookAll (all_said 1 worked) old middle
+    pub later : old.faults ≤ middle.faults
+    pub ends : LineEnds s (length worked + 1) ending.told middle new
 
--- what is said in a run over a restarted store
-abbrev pub RunSays : Status → List Line → SinkState → SinkState → Type 0
-RunSays status.Done lines old new = SaysAll lines old new
-RunSays status.Memory lines old new = SaysFirst lines old new
-RunSays status.Damage lines old new = EndsAt status.Damage lines old new
-RunSays status.Store lines old new = EndsAt status.Store lines old new
-RunSays status.Sink lines old new = EndsAt status.Sink lines old new
-RunSays _ lines old new = ⊥
+  abbrev pub RunSays : Status → List Line → SinkState → SinkState → World S → World S → Type 0
+  RunSays status.Done = SaysAll
+  RunSays status.Memory = EndsAt status.Memory
+  RunSays status.Damage = EndsAt status.Damage
+  RunSays status.Store = EndsAt status.Store
+  RunSays status.Sink = EndsAt status.Sink
+  RunSays _ = λ lines old new first last. ⊥
 
--- what is said in a play: the store, in the end, has failed so often
-abbrev pub PlaySays : Status → List Line → ℕ → SinkState → SinkState → Type 0
-PlaySays status.Store lines faults old new = EndsAt status.Store lines old new ⊎ FailsToStart faults old new
-PlaySays s lines faults old new = RunSays s lines old new
+  -- ---- over a store
+
+  -- so it is over the store that was handed in, which was restarted
+  pub record OverRestarted (before after : S) (P : World S → World S → Type 0) : Type 0 where
+    pub store : S
+    pub restarted : IsRestarted state faults unreported before store
+    pub over : Over store after P
+
+  -- The restart before the first line failed.
+  pub record FailsToStart (s : Status) (before after : S) (old new : SinkState) : Type 0 where
+    pub stays : Stays (state before) (state after)
+    pub rose : Rose (faults before) (faults after)
+    pub text : StartEnds s (faults after) old new
+
+  abbrev pub PlaySays : Status → List Line → S → S → SinkState → SinkState → Type 0
+  PlaySays status.Store lines before after old new = OverRestarted before after (RunSays status.Store lines old new) ⊎ FailsToStart status.Store before after old new
+  PlaySays status.Memory lines before after old new = OverRestarted before after (RunSays status.Memory lines old new) ⊎ FailsToStart status.Memory before after old new
+  PlaySays s lines before after old new = OverRestarted before after (RunSays s lines old new)

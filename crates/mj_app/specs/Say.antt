@@ -5,7 +5,7 @@ use Rattle.mj_app.specs.declared.read.ReadRefusal.{ReadRefusal}
 use Rattle.mj_app.specs.declared.read.ReadRefusal.TheVariants as read
 use Rattle.mj_app.specs.declared.say.Unsaid.{Unsaid}
 use Rattle.mj_app.specs.declared.say.Unsaid.TheVariants as unsaid
-use Rattle.mj_app.specs.Run.{SinkState, TookAll, TookNone, FailedIn}
+use Rattle.mj_app.specs.Took.{SinkState, TookAll, TookNone, FailedIn}
 
 -- the text of a refusal; want of memory has none
 abbrev pub refusal_text : ReadRefusal → List ℕ

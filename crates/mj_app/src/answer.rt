@@ -1,11 +1,9 @@
 //! The answer to a line, from what the world says.
 
-ghost use Rattle.std.specs.Prelude.{IfOk};
-ghost use Rattle.mj_world.specs.Refusals.{IsFault, IsDownRank};
+ghost use Rattle.std.specs.Prelude.{◌≡◌, Some, None, IfOk, OnErr};
 ghost use Rattle.mj_world.specs.Steps.{IsAnswerTo};
-ghost use Rattle.mj_rank.specs.Refusals.{IsStoreFault as IsMountFault};
 ghost use Rattle.mj_lines.specs.Line.{IsServed};
-ghost use Rattle.mj_app.specs.Answers.{IsStoreFault, IsRefused, IsMade, IsOfPhase, TellsRefusal};
+ghost use Rattle.mj_app.specs.Told.{said_told, refusal_told, rank_told, mount_told};
 
 use mj_lines::{Answer, Line};
 use mj_rank::{MountRefusal, RankRefusal};
@@ -16,8 +14,7 @@ use std::alloc::AllocError;
 pub fn answer_of(step: &Step, said: Said) -> Answer
     requires answer { IsAnswerTo step.now said }
     requires line { IsServed (Line.One step.now) }
-    ensures made { IsMade step.now result }
-    ensures phase { IsOfPhase result → ⊥ }
+    ensures { said_told step.now said ≡ Some result }
 {
     match said {
         Said::Asked(early) => Answer::Asked(early),
@@ -36,9 +33,8 @@ pub fn answer_of(step: &Step, said: Said) -> Answer
 
 /// The answer to a step that was refused.
 pub fn answer_to(refusal: WorldRefusal) -> Result<Answer, AllocError>
-    ensures fault { IfOk result (λ a. IsStoreFault a → IsFault refusal) }
-    ensures refused { IfOk result IsRefused }
-    ensures phase { IfOk result (TellsRefusal refusal) }
+    ensures told { IfOk result (λ a. refusal_told refusal ≡ Some a) }
+    ensures memory { OnErr result (refusal_told refusal ≡ None) }
 {
     match refusal {
         WorldRefusal::Stopped => Ok(Answer::Stopped),
@@ -51,9 +47,8 @@ pub fn answer_to(refusal: WorldRefusal) -> Result<Answer, AllocError>
 }
 
 fn answer_to_rank(refusal: RankRefusal) -> Result<Answer, AllocError>
-    ensures fault { IfOk result (λ a. IsStoreFault a → IsDownRank refusal) }
-    ensures refused { IfOk result IsRefused }
-    ensures phase { IfOk result (λ a. IsOfPhase a → ⊥) }
+    ensures told { IfOk result (λ a. rank_told refusal ≡ Some a) }
+    ensures memory { OnErr result (rank_told refusal ≡ None) }
 {
     match refusal {
         RankRefusal::Down(fault, _) => Ok(Answer::StoreFault(fault.faults)),
@@ -65,9 +60,8 @@ fn answer_to_rank(refusal: RankRefusal) -> Result<Answer, AllocError>
 }
 
 fn answer_to_mount(refusal: MountRefusal) -> Result<Answer, AllocError>
-    ensures fault { IfOk result (λ a. IsStoreFault a → IsMountFault refusal) }
-    ensures refused { IfOk result IsRefused }
-    ensures phase { IfOk result (λ a. IsOfPhase a → ⊥) }
+    ensures told { IfOk result (λ a. mount_told refusal ≡ Some a) }
+    ensures memory { OnErr result (mount_told refusal ≡ None) }
 {
     match refusal {
         MountRefusal::Damage(damage) => Ok(Answer::Damaged(damage)),

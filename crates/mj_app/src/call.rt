@@ -1,9 +1,11 @@
 //! The top call over a store.
 
-ghost use Rattle.std.specs.Prelude.{◌≡◌};
-ghost use Rattle.mj_app.specs.Run.{sink_state};
+ghost use Rattle.std.specs.Prelude.{◌≡◌, Some};
+ghost use Rattle.mj_store.specs.State.{StoreState};
+ghost use Rattle.mj_app.specs.Took.{sink_state};
 ghost use Rattle.mj_app.specs.Say.{HasFixedText};
 ghost use Rattle.mj_app.specs.Call.{files_state, status_of, CallSays, EndSays, IsExact, RefusalEnds};
+ghost use Rattle.mj_app.specs.Headline.{IsFormatted, Headline};
 
 use crate::play::play;
 use crate::read::{ReadRefusal, read_call};
@@ -22,7 +24,9 @@ pub fn mdjournal_call<S: ObjectStore, F: Files, K: Sink>(
     store: S,
     out: &mut K,
 ) -> (u8, S)
-    ensures { CallSays S.faults words.now (files_state F.told F.faults files.old) (files_state F.told F.faults files.new) store result.1 (sink_state K.taken K.faults out.old) (sink_state K.taken K.faults out.new) result.0 }
+    ensures says { CallSays S.state S.faults S.unreported words.now (files_state F.told F.faults files.old) (files_state F.told F.faults files.new) store result.1 (sink_state K.taken K.faults out.old) (sink_state K.taken K.faults out.new) result.0 }
+    ensures headline { (s : StoreState) → S.state store ≡ Some s → IsFormatted s →
+        Headline S.state S.faults S.unreported words.now (files_state F.told F.faults files.old) store result.1 (sink_state K.taken K.faults out.old) (sink_state K.taken K.faults out.new) result.0 }
 {
     let (status, store) = call(alloc, words, files, store, out);
     (status.code(), store)
@@ -35,7 +39,7 @@ fn call<S: ObjectStore, F: Files, K: Sink>(
     store: S,
     out: &mut K,
 ) -> (Status, S)
-    ensures says { EndSays S.faults words.now (files_state F.told F.faults files.old) (files_state F.told F.faults files.new) store result.1 (sink_state K.taken K.faults out.old) (sink_state K.taken K.faults out.new) result.0 }
+    ensures says { EndSays S.state S.faults S.unreported words.now (files_state F.told F.faults files.old) (files_state F.told F.faults files.new) store result.1 (sink_state K.taken K.faults out.old) (sink_state K.taken K.faults out.new) result.0 }
     ensures exact { IsExact words.now (files_state F.told F.faults files.old) (files_state F.told F.faults files.new) result.0 }
 {
     match read_call(alloc, words, files) {

@@ -1,10 +1,10 @@
 //! The store with which the program begins on its first path.
 
-ghost use Rattle.std.specs.Prelude.{◌≡◌, [], IfOk};
+ghost use Rattle.std.specs.Prelude.{◌≡◌, [], Some, IfOk};
 ghost use Rattle.mj_base.specs.Reading.{eight};
-ghost use Rattle.mj_layout.specs.Header.{header_bytes};
-ghost use Rattle.mj_memstore.specs.Store.{IsNew};
-ghost use Rattle.mj_app.specs.Formatted.{first_header, object, empty_directory, formatted_objects};
+ghost use Rattle.mj_recovery.specs.Formatted.{keyless, formatted_header};
+ghost use Rattle.mj_app.specs.Headline.{default_layout};
+ghost use Rattle.mj_app.specs.Image.{IsFormattedStore, AreFormatted};
 
 use mj_base::{Items, ObjectName, RankNo, put_u64};
 use mj_layout::{Header, Layout, Phase};
@@ -25,14 +25,14 @@ const OBJECT_SIZE: u32 = 4_194_304;
 
 /// A store that holds what formatting leaves for rank 0 and the default layout. No operation was submitted to it.
 pub fn formatted_store(alloc: Global) -> Result<MemStore, AllocError>
-    ensures { IfOk result (IsNew formatted_objects []) }
+    ensures { IfOk result IsFormattedStore }
 {
     let objects = formatted_objects(alloc)?;
     MemStore::holding(alloc, objects, &[])
 }
 
 fn formatted_objects(alloc: Global) -> Result<Vec<HeldObject>, AllocError>
-    ensures { IfOk result (λ objects. objects.items ≡ formatted_objects) }
+    ensures { IfOk result (λ objects. AreFormatted objects.items) }
 {
     let journal = ObjectName::File {
         ino: JOURNAL_INO,
@@ -68,7 +68,7 @@ fn rank() -> RankNo
 }
 
 fn first_header() -> Header
-    ensures { result ≡ first_header }
+    ensures { result ≡ formatted_header default_layout }
 {
     let Ok(layout) = Layout::new(OBJECT_SIZE, 1, OBJECT_SIZE) else {
         unreachable!()
@@ -86,7 +86,7 @@ fn first_header() -> Header
 }
 
 fn empty_directory(alloc: Global, ino: u64) -> Result<HeldObject, AllocError>
-    ensures { IfOk result (λ directory. directory ≡ empty_directory ino) }
+    ensures { IfOk result (λ directory. directory ≡ keyless (ObjectName.File ino 0) [] (Some (eight 1))) }
 {
     let version = number(alloc, 1)?;
     let name = ObjectName::File { ino, index: 0 };
@@ -94,7 +94,7 @@ fn empty_directory(alloc: Global, ino: u64) -> Result<HeldObject, AllocError>
 }
 
 fn object(alloc: Global, name: ObjectName, bytes: Vec<u8>, head: Option<Items<u8>>) -> HeldObject
-    ensures { result ≡ object name bytes.items head }
+    ensures { result ≡ keyless name bytes.items head }
 {
     HeldObject {
         name,

@@ -1,7 +1,7 @@
 //! The top call over an image.
 
 ghost use Rattle.std.specs.Prelude.{◌≡◌, option_map};
-ghost use Rattle.mj_app.specs.Run.{sink_state};
+ghost use Rattle.mj_app.specs.Took.{sink_state};
 ghost use Rattle.mj_app.specs.Call.{files_state};
 ghost use Rattle.mj_app.specs.Image.{played_words, ImageSays};
 

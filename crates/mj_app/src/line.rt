@@ -1,11 +1,11 @@
 //! One line of a script.
 
-ghost use Rattle.std.specs.Prelude.{◌≡◌, ◌≤◌, ℕ, Some, IfOk, IsErrOf};
-ghost use Rattle.mj_world.specs.World.{WorldSince, HasFailed};
-ghost use Rattle.mj_world.specs.Phases.{phase_refusal};
+ghost use Rattle.std.specs.Prelude.{◌≡◌, ◌≤◌, IfOk};
+ghost use Rattle.mj_world.specs.World.{WorldSince};
 ghost use Rattle.mj_lines.specs.Line.{IsServed};
-ghost use Rattle.mj_app.specs.Answers.{IsStoreFault, MayAnswer, MaySay, SaysStoreFault, TellsPhase, FitsPhase, last_status};
-ghost use Rattle.mj_app.specs.Run.{sink_state, TurnSays, LineSays};
+ghost use Rattle.mj_app.specs.Answers.{IsTold, last_status};
+ghost use Rattle.mj_app.specs.Took.{sink_state};
+ghost use Rattle.mj_app.specs.Run.{TurnSays, WorksTo, LineRuns, answer_in, told_in};
 
 use crate::answer::{answer_of, answer_to};
 use crate::mount::mount;
@@ -27,9 +27,7 @@ pub fn run_line<S: ObjectStore, K: Sink>(
 ) -> Result<(), Status>
     requires since { WorldSince S.faults S.unreported 0 world.old }
     requires served { IsServed line.now }
-    ensures since { (base : ℕ) → WorldSince S.faults S.unreported base world.old → WorldSince S.faults S.unreported base world.new }
-    ensures says { LineSays number line.now (sink_state K.taken K.faults out.old) (sink_state K.taken K.faults out.new) result }
-    ensures store { IsErrOf result Status.Store → (base : ℕ) → WorldSince S.faults S.unreported base world.old → HasFailed S.faults base world.new }
+    ensures runs { LineRuns S.state S.faults S.unreported number line.now world.old world.new (sink_state K.taken K.faults out.old) (sink_state K.taken K.faults out.new) result }
     ensures later { K.faults out.old ≤ K.faults out.new }
 {
     match answer_to_line(alloc, world, line) {
@@ -81,10 +79,8 @@ fn answer_to_line<S: ObjectStore>(
 ) -> Result<Option<Answer>, AllocError>
     requires since { WorldSince S.faults S.unreported 0 world.old }
     requires served { IsServed line.now }
-    ensures since { (base : ℕ) → WorldSince S.faults S.unreported base world.old → WorldSince S.faults S.unreported base world.new }
-    ensures may { IfOk result (MaySay line.now) }
-    ensures phase { IfOk result (FitsPhase line.now world.old.phase) }
-    ensures store { IfOk result (λ a. SaysStoreFault a → (base : ℕ) → WorldSince S.faults S.unreported base world.old → HasFailed S.faults base world.new) }
+    ensures works { WorksTo S.state S.faults S.unreported line.now world.old (told_in result) world.new }
+    ensures told { IfOk result (IsTold line.now) }
 {
     match line {
         Line::Blank => Ok(None),
@@ -105,16 +101,10 @@ fn one_step<S: ObjectStore>(
     step: &Step,
 ) -> Result<Answer, AllocError>
     requires { IsServed (Line.One step.now) }
-    ensures since { (base : ℕ) → WorldSince S.faults S.unreported base world.old → WorldSince S.faults S.unreported base world.new }
-    ensures may { IfOk result (MayAnswer (Line.One step.now)) }
-    ensures phase { IfOk result (TellsPhase (phase_refusal step.now world.old.phase)) }
-    ensures store { IfOk result (λ a. IsStoreFault a → (base : ℕ) → WorldSince S.faults S.unreported base world.old → HasFailed S.faults base world.new) }
+    ensures { WorksTo S.state S.faults S.unreported (Line.One step.now) world.old (answer_in result) world.new }
 {
     match world.step(alloc, step) {
         Ok(said) => Ok(answer_of(step, said)),
-        Err(refusal) => {
-            let answer = answer_to(refusal)?;
-            Ok(answer)
-        }
+        Err(refusal) => answer_to(refusal),
     }
 }

@@ -1,13 +1,13 @@
 //! All steps of a mount.
 
-ghost use Rattle.std.specs.Prelude.{◌≡◌, ℕ, Err, IfOk, IfErr, IfSome};
-ghost use Rattle.mj_world.specs.World.{WorldSince, HasFailed, IsServing};
-ghost use Rattle.mj_world.specs.Refusals.{IsFault};
-ghost use Rattle.mj_world.specs.Phases.{phase_refusal};
-ghost use Rattle.mj_world.specs.Steps.{Leaves, Awaits, left};
-ghost use Rattle.mj_world.specs.declared.answers.Said.TheVariants.{Carried};
+ghost use Rattle.std.specs.Prelude.{◌≡◌, ℕ, Option, Some, Ok, Err, IfOk, IfErr};
+ghost use Rattle.mj_world.specs.Made.{Made};
+ghost use Rattle.mj_world.specs.World.{WorldSince, IsServing};
+ghost use Rattle.mj_world.specs.Steps.{Awaits};
+ghost use Rattle.mj_world.specs.declared.answers.Said.TheVariants.{Applied, Begun, Carried};
 ghost use Rattle.mj_lines.specs.declared.line.Line.TheVariants as line;
-ghost use Rattle.mj_app.specs.Answers.{IsStoreFault, IsMounted, EndsMount, MayAnswer, TellsIfRefused};
+ghost use Rattle.mj_app.specs.LineActs.{Stage, StepsOldest, ready, told_if};
+ghost use Rattle.mj_app.specs.Run.{WorksTo, answer_in};
 
 use crate::answer::answer_to;
 use mj_base::OpNo;
@@ -21,28 +21,17 @@ use std::alloc::{AllocError, Global};
 /// was sent. Where it waits right after that, the mount is left so.
 pub fn mount<S: ObjectStore>(alloc: Global, world: &mut World<S>) -> Result<Answer, AllocError>
     requires { WorldSince S.faults S.unreported 0 world.old }
-    ensures since { (base : ℕ) → WorldSince S.faults S.unreported base world.old → WorldSince S.faults S.unreported base world.new }
-    ensures may { IfOk result (MayAnswer line.Mount) }
-    ensures phase { IfOk result (TellsIfRefused (phase_refusal Step.Begin world.old.phase)) }
-    ensures serves { IfOk result (λ a. IsMounted a → IsServing world.new) }
-    ensures store { IfOk result (λ a. IsStoreFault a → (base : ℕ) → WorldSince S.faults S.unreported base world.old → HasFailed S.faults base world.new) }
+    ensures { WorksTo S.state S.faults S.unreported line.Mount world.old (answer_in result) world.new }
 {
     match carry_on(alloc, world) {
         Ok(answer) => Ok(answer),
-        Err(refusal) => {
-            let answer = answer_to(refusal)?;
-            Ok(answer)
-        }
+        Err(refusal) => answer_to(refusal),
     }
 }
 
 fn carry_on<S: ObjectStore>(alloc: Global, world: &mut World<S>) -> Result<Answer, WorldRefusal>
     requires { WorldSince S.faults S.unreported 0 world.old }
-    ensures since { (base : ℕ) → WorldSince S.faults S.unreported base world.old → WorldSince S.faults S.unreported base world.new }
-    ensures ends { IfOk result EndsMount }
-    ensures phase { IfSome (phase_refusal Step.Begin world.old.phase) (λ e. result ≡ Err e) }
-    ensures serves { IfOk result (λ a. IsMounted a → IsServing world.new) }
-    ensures cause { (base : ℕ) → WorldSince S.faults S.unreported base world.old → IfErr result (λ e. IsFault e → HasFailed S.faults base world.new) }
+    ensures { WorksTo S.state S.faults S.unreported line.Mount world.old (told_if result) world.new }
 {
     let tail = match begin(alloc, world) {
         Ok(tail) => tail,
@@ -67,9 +56,8 @@ fn carry_on<S: ObjectStore>(alloc: Global, world: &mut World<S>) -> Result<Answe
 }
 
 fn begin<S: ObjectStore>(alloc: Global, world: &mut World<S>) -> Result<u64, WorldRefusal>
-    ensures phase { IfSome (phase_refusal Step.Begin world.old.phase) (λ e. result ≡ Err e) }
-    ensures since { (base : ℕ) → WorldSince S.faults S.unreported base world.old → WorldSince S.faults S.unreported base world.new }
-    ensures cause { (base : ℕ) → WorldSince S.faults S.unreported base world.old → IfErr result (λ e. IsFault e → HasFailed S.faults base world.new) }
+    ensures begun { IfOk result (λ tail. Made S.state S.faults S.unreported Step.Begin world.old (Ok (Begun tail)) world.new) }
+    ensures refused { IfErr result (λ e. Made S.state S.faults S.unreported Step.Begin world.old (Err e) world.new) }
 {
     match world.step(alloc, &Step::Begin) {
         Ok(said) => match said {
@@ -81,9 +69,8 @@ fn begin<S: ObjectStore>(alloc: Global, world: &mut World<S>) -> Result<u64, Wor
 }
 
 fn carry<S: ObjectStore>(alloc: Global, world: &mut World<S>) -> Result<MountStep, WorldRefusal>
-    ensures since { (base : ℕ) → WorldSince S.faults S.unreported base world.old → WorldSince S.faults S.unreported base world.new }
-    ensures cause { (base : ℕ) → WorldSince S.faults S.unreported base world.old → IfErr result (λ e. IsFault e → HasFailed S.faults base world.new) }
-    ensures leaves { (base : ℕ) → WorldSince S.faults S.unreported base world.old → IfOk result (λ step. Leaves (Carried step) world.old world.new) }
+    ensures carried { IfOk result (λ made. Made S.state S.faults S.unreported Step.Carry world.old (Ok (Carried made)) world.new) }
+    ensures refused { IfErr result (λ e. Made S.state S.faults S.unreported Step.Carry world.old (Err e) world.new) }
 {
     match world.step(alloc, &Step::Carry) {
         Ok(said) => match said {
@@ -97,9 +84,8 @@ fn carry<S: ObjectStore>(alloc: Global, world: &mut World<S>) -> Result<MountSte
 /// The store tries the oldest operation that is sent and not acknowledged.
 fn try_oldest<S: ObjectStore>(alloc: Global, world: &mut World<S>) -> Result<OpNo, WorldRefusal>
     requires { Awaits world.old }
-    ensures since { (base : ℕ) → WorldSince S.faults S.unreported base world.old → WorldSince S.faults S.unreported base world.new }
-    ensures cause { (base : ℕ) → WorldSince S.faults S.unreported base world.old → IfErr result (λ e. IsFault e → HasFailed S.faults base world.new) }
-    ensures left { (base : ℕ) → WorldSince S.faults S.unreported base world.old → IfOk result (λ _. left world.new ≡ left world.old) }
+    ensures tried { IfOk result (λ op. (applied : Option ℕ) × StepsOldest S.state S.faults S.unreported op world.old (Ok (Applied applied)) world.new) }
+    ensures refused { IfErr result (λ e. (op : ℕ) × StepsOldest S.state S.faults S.unreported op world.old (Err e) world.new) }
 {
     let Some((op, name)) = world.oldest_sent() else {
         unreachable!()
@@ -115,7 +101,7 @@ fn try_oldest<S: ObjectStore>(alloc: Global, world: &mut World<S>) -> Result<OpN
 
 fn mounted<S: ObjectStore>(world: &World<S>, tail: u64) -> Answer
     requires { IsServing world.now }
-    ensures { EndsMount result }
+    ensures { ready tail world.now.phase ≡ Stage.Ended (Some result) }
 {
     match world.rank() {
         Some(rank) => Answer::Mounted {

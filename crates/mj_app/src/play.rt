@@ -1,9 +1,10 @@
 //! The run of a script.
 
-ghost use Rattle.std.specs.Prelude.{◌≡◌, ◌≤◌, ℕ, [], All};
-ghost use Rattle.mj_base.specs.Counts.{Rose};
+ghost use Rattle.std.specs.Prelude.{◌≡◌, ◌≤◌, [], All};
 ghost use Rattle.mj_lines.specs.Line.{IsServed};
-ghost use Rattle.mj_app.specs.Run.{sink_state, StartSays, RunSays, PlaySays};
+ghost use Rattle.mj_app.specs.Took.{sink_state};
+ghost use Rattle.mj_app.specs.Run.{StartEnds, RunSays, PlaySays};
+ghost use Rattle.mj_app.specs.Worlds.{Over};
 
 use crate::line::{run_line, say_answer};
 use crate::status::Status;
@@ -21,9 +22,7 @@ pub fn play<S: ObjectStore, K: Sink>(
     out: &mut K,
 ) -> (Status, S)
     requires { All IsServed lines.now }
-    ensures says { PlaySays result.0 lines.now (S.faults result.1) (sink_state K.taken K.faults out.old) (sink_state K.taken K.faults out.new) }
-    ensures store { result.0 ≡ Status.Store → Rose (S.faults store) (S.faults result.1) }
-    ensures later { K.faults out.old ≤ K.faults out.new }
+    ensures { PlaySays S.state S.faults S.unreported result.0 lines.now store result.1 (sink_state K.taken K.faults out.old) (sink_state K.taken K.faults out.new) }
 {
     match store.restart() {
         Ok(()) => play_restarted(alloc, lines, store, out),
@@ -42,9 +41,7 @@ fn play_restarted<S: ObjectStore, K: Sink>(
 ) -> (Status, S)
     requires served { All IsServed lines.now }
     requires restarted { S.unreported store ≡ [] }
-    ensures says { RunSays result.0 lines.now (sink_state K.taken K.faults out.old) (sink_state K.taken K.faults out.new) }
-    ensures store { result.0 ≡ Status.Store → (base : ℕ) → base ≤ S.faults store → Rose base (S.faults result.1) }
-    ensures later { K.faults out.old ≤ K.faults out.new }
+    ensures { Over store result.1 (RunSays S.state S.faults S.unreported result.0 lines.now (sink_state K.taken K.faults out.old) (sink_state K.taken K.faults out.new)) }
 {
     let Some(rank) = RankNo::new(0) else {
         unreachable!()
@@ -61,8 +58,7 @@ fn play_restarted<S: ObjectStore, K: Sink>(
 
 // The restart before the first line has the number 0.
 fn fail_to_start<K: Sink>(alloc: Global, faults: u64, out: &mut K) -> Status
-    ensures says { StartSays result faults (sink_state K.taken K.faults out.old) (sink_state K.taken K.faults out.new) }
-    ensures later { K.faults out.old ≤ K.faults out.new }
+    ensures { StartEnds result faults (sink_state K.taken K.faults out.old) (sink_state K.taken K.faults out.new) }
 {
     match say_answer(alloc, 0, &Answer::StoreFault(faults), out) {
         Ok(()) => Status::Store,

@@ -2,7 +2,7 @@
 
 ghost use Rattle.std.specs.Prelude.{◌≡◌, ◌++◌, ◌∷◌, [], ◌≤◌, IsErrOf, OnOk};
 ghost use Rattle.mj_lines.specs.Text.{turn_text, numbered};
-ghost use Rattle.mj_app.specs.Run.{sink_state};
+ghost use Rattle.mj_app.specs.Took.{sink_state};
 ghost use Rattle.mj_app.specs.Say.{refusal_text, Prints, HasFixedText};
 
 use crate::read::ReadRefusal;

@@ -1,10 +1,10 @@
 use Rattle.std.proofs.Common.{ℕ, ◌+◌, ◌*◌, Option, None, Some}
-use Rattle.mj_world.specs.World.{WorldSince}
 use Rattle.mj_world.specs.Steps.{left}
+use Rattle.mj_app.proofs.MountActs.{Come, stage_of}
 use Rattle.mj_app.proofs.mount.carry_on.Given as goal
 
 abbrev pub invariant-carries : goal.invariant-carries
-invariant-carries g l = (base : ℕ) → WorldSince g.S.ObjectStore.faults g.S.ObjectStore.unreported base l.fn.world → WorldSince g.S.ObjectStore.faults g.S.ObjectStore.unreported base l.world
+invariant-carries g l = Come g.S.ObjectStore.state g.S.ObjectStore.faults g.S.ObjectStore.unreported (stage_of l.tail l.tried) l.fn.world l.world
 
 -- whether the store is still to try the oldest operation
 abbrev pub to_try : Option ℕ → ℕ

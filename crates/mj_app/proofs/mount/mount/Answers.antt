@@ -1,4 +1,5 @@
+use Rattle.mj_app.proofs.WorldsLemmas.{answered}
 use Rattle.mj_app.proofs.mount.mount.Goals as goal
 
-pub returns-in_ok-answer-in-Err-clause-store : goal.returns-in_ok-answer-in-Err-clause-store
-returns-in_ok-answer-in-Err-clause-store g c = λ fault base since. c.in-Err.ensures.cause base since (c.in_ok-answer-in-Err.ensures.fault fault)
+pub returns-in-Err : goal.returns-in-Err
+returns-in-Err g c = rw (answered _ c.answer_to.result c.answer_to.ensures.told c.answer_to.ensures.memory) at c.in-Err.ensures
