@@ -22,6 +22,7 @@ use Rattle.mj_app.specs.Run.{OverRestarted, LineEnds, StartEnds, RunSays, PlaySa
 use Rattle.mj_app.specs.Say.{HasFixedText}
 use Rattle.mj_app.specs.Call.{FilesState, status_of, EndsWith, TellsMissing, TellsLong, TellsOutside, EndSays, IsExact, RefusalEnds, CallSays}
 use Rattle.mj_app.proofs.RunLemmas.{run_failed}
+use Rattle.mj_app.proofs.TookLemmas.{raised}
 
 -- ---- codes
 
@@ -44,9 +45,6 @@ same_status : (s t : Status) → code_of s ≡ code_of t → s ≡ t
 same_status s t e = sym (status_at-code s) ∙ ap status_at e ∙ status_at-code t
 
 -- ---- a play
-
-raised : (base before now : ℕ) → base ≤ before → Rose before now → Rose base now
-raised base before now le rose = omega arith
 
 -- what failed in an answer that goes on
 cut_turn : (n : ℕ) (told : Option Answer) (old new : SinkState) → LineEnds Sink n told old new → Rose old.faults new.faults

@@ -23,7 +23,7 @@ took_more xs ys old middle new f g = g ∙ ap (then_taken ys) f ∙ then_both xs
 pub took_none : (xs : List ℕ) (old middle new : SinkState) → TookAll xs old middle → TookNone middle new → TookAll xs old new
 took_none xs old middle new f g = g ∙ f
 
-raised : (base before now : ℕ) → base ≤ before → Rose before now → Rose base now
+pub raised : (base before now : ℕ) → base ≤ before → Rose before now → Rose base now
 raised base before now le rose = omega arith
 
 -- it failed in the text behind what it took
