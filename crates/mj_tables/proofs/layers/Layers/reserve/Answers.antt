@@ -1,0 +1,8 @@
+use Rattle.std.proofs.Common.{sym, subst}
+use Rattle.mj_tables.specs.Layered.{HasRoom}
+use Rattle.mj_tables.specs.Slots.{Slots, slots_of, rooms}
+use Rattle.mj_tables.proofs.Laid.{room-all_room}
+use Rattle.mj_tables.proofs.layers.Layers.reserve.Goals as goal
+
+pub returns-clause-room : goal.returns-clause-room
+returns-clause-room c = subst (λ (m : Slots). HasRoom (rooms m) c.args.ws.now) (sym c.in_ok-make_all_room.ensures.ok) (room-all_room (slots_of c.self.inside.slots) c.args.ws.now)

@@ -1,0 +1,170 @@
+//! A safe table, and over it the groups of writes that are not safe yet.
+
+ghost use Rattle.std.specs.Prelude.{◌≡◌, ◌<◌, [], ◌∷◌, ◌++◌, map, IfOk, OnOk, OnErr, option_map};
+ghost use Rattle.std.specs.Option.{option_copied};
+ghost use Rattle.std.specs.Bound.{bound_map};
+ghost use Rattle.mj_maps.specs.Map.{get, entries};
+ghost use Rattle.mj_cells.specs.Next.{cell_of, bound_above};
+ghost use Rattle.mj_cells.specs.Table.{put_all};
+ghost use Rattle.mj_tables.specs.Layered.{all_writes, writes_key, early_cells, next_there, EndBelow, HasRoom, ended, unended};
+
+use crate::group::Group;
+use crate::moving::slots_from;
+use crate::settling::{make_all_room, project_all, settle_ended};
+use crate::slot::Slot;
+use mj_base::Items;
+use mj_cells::{CellKey, CellTable, CellValue, CellView, CellWrite};
+use std::alloc::{AllocError, Global};
+use std::collections::{BTreeMap, VecDeque};
+use std::marker::Model;
+use std::ops::Bound;
+
+/// Cells by key: the safe values, and over them the writes of groups that are not safe yet.
+#[derive(Drop)]
+pub struct Layers {
+    slots: BTreeMap<CellKey, Slot>,
+    groups: VecDeque<Group>,
+}
+
+impl Model for Layers {
+    ghost use Rattle.mj_tables.specs.Layered.{Layered, layered_code};
+
+    ghost Value = { Layered };
+
+    ghost coded = { layered_code };
+
+    ghost use Rattle.mj_tables.specs.Inside.{layers_in, IsSound};
+
+    ghost view = { layers_in };
+
+    ghost invariant = { IsSound };
+}
+
+impl Layers {
+    /// The cells of a table, all of them safe.
+    pub fn of_table(alloc: Global, table: CellTable) -> Result<Layers, AllocError>
+        ensures safe { IfOk result (λ l. l.safe ≡ table) }
+        ensures groups { IfOk result (λ l. l.groups ≡ []) }
+    {
+        let slots = slots_from(alloc, table)?;
+        Ok(Layers {
+            slots,
+            groups: VecDeque::new(alloc),
+        })
+    }
+
+    /// The safe value of a key.
+    pub fn safe(&self, key: &CellKey) -> Option<&CellValue>
+        ensures { option_copied result ≡ get self.now.safe key.now }
+    {
+        match self.slots.get(key) {
+            Some(slot) => slot.safe.as_ref(),
+            None => None,
+        }
+    }
+
+    /// The value of a key with all groups' writes.
+    pub fn early(&self, key: &CellKey) -> Option<&CellValue>
+        ensures { option_copied result ≡ get (early_cells self.now) key.now }
+    {
+        match self.slots.get(key) {
+            Some(slot) => slot.early(),
+            None => None,
+        }
+    }
+
+    /// Whether a group writes the key.
+    pub fn projects(&self, key: &CellKey) -> bool
+        ensures { result ≡ writes_key key.now (all_writes self.now.groups) }
+    {
+        match self.slots.get(key) {
+            Some(slot) => slot.ahead.is_some(),
+            None => false,
+        }
+    }
+
+    /// The early cell with the least key above `after` that is neither gone nor null.
+    pub fn next_there(&self, after: Option<&CellKey>) -> Option<CellView<'_>>
+        ensures { option_map cell_of result ≡ next_there (early_cells self.now) (option_copied after.entry) }
+    {
+        for (key, slot) in self.slots.range((start_above(after), Bound::Unbounded)) {
+            if let Some(value) = slot.there() {
+                return Some(CellView { key, value });
+            }
+        }
+        None
+    }
+
+    /// All early cells, in the order of their keys.
+    pub fn cells(&self, alloc: Global) -> Result<Vec<CellView<'_>>, AllocError>
+        ensures { IfOk result (λ v. map cell_of v.items ≡ entries (early_cells self.now)) }
+    {
+        let mut found = Vec::new(alloc);
+        for (key, slot) in self.slots.iter() {
+            if let Some(value) = slot.early() {
+                found.push(CellView { key, value })?;
+            }
+        }
+        Ok(found)
+    }
+
+    /// Makes the room of a group of these writes, and copies them. Nothing that is held changes.
+    pub fn reserve(&mut self, alloc: Global, ws: &[CellWrite]) -> Result<Vec<CellWrite>, AllocError>
+        ensures safe { self.new.safe ≡ self.old.safe }
+        ensures groups { self.new.groups ≡ self.old.groups }
+        ensures room { OnOk result (HasRoom self.new.room ws.now) }
+        ensures spare { OnOk result (0 < self.new.spare) }
+        ensures copies { IfOk result (λ same. same.items ≡ ws.now) }
+    {
+        let copies = copy_writes(alloc, ws)?;
+        self.groups.reserve(1)?;
+        make_all_room(alloc, &mut self.slots, ws)?;
+        Ok(copies)
+    }
+
+    /// Adds a group, which needs no memory where there is room. `copies` are the same writes again.
+    pub fn project(&mut self, ws: Vec<CellWrite>, copies: Vec<CellWrite>, ends: u64)
+        requires room { HasRoom self.old.room ws.items }
+        requires spare { 0 < self.old.spare }
+        requires copies { copies.items ≡ ws.items }
+        requires above { EndBelow ends self.old.groups }
+        ensures safe { self.new.safe ≡ self.old.safe }
+        ensures groups { self.new.groups ≡ self.old.groups ++ record { ends = ends; writes = ws.items } ∷ [] }
+    {
+        project_all(&mut self.slots, copies, ends);
+        self.groups.push_back_reserved(Group {
+            ends,
+            writes: Items::from_vec(ws),
+        });
+    }
+
+    /// Takes the groups that end at or below `upto` into the safe cells, without memory.
+    pub fn make_safe(&mut self, upto: u64)
+        ensures safe { self.new.safe ≡ put_all self.old.safe (all_writes (ended upto self.old.groups)) }
+        ensures groups { self.new.groups ≡ unended upto self.old.groups }
+        ensures early { early_cells self.new ≡ early_cells self.old }
+    {
+        settle_ended(&mut self.slots, &mut self.groups, upto);
+    }
+}
+
+fn start_above(after: Option<&CellKey>) -> Bound<&CellKey>
+    ensures { bound_map (λ x. x.now) result ≡ bound_above (option_copied after.entry) }
+{
+    match after {
+        Some(key) => Bound::Excluded(key),
+        None => Bound::Unbounded,
+    }
+}
+
+/// The same writes again.
+fn copy_writes(alloc: Global, ws: &[CellWrite]) -> Result<Vec<CellWrite>, AllocError>
+    ensures { IfOk result (λ same. same.items ≡ ws.now) }
+{
+    let mut copies = Vec::new(alloc);
+    for w in ws {
+        let copy = w.copy(alloc)?;
+        copies.push(copy)?;
+    }
+    Ok(copies)
+}

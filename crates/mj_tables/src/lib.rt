@@ -1,0 +1,11 @@
+//! Tables of cells with writes over them that are not safe yet.
+#![tactic(auto)]
+
+mod group;
+mod layers;
+mod moving;
+mod settling;
+mod slot;
+
+pub use group::Group;
+pub use layers::Layers;

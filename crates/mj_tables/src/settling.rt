@@ -1,0 +1,74 @@
+//! The writes of a group, all at once.
+
+ghost use Rattle.std.specs.Prelude.{◌≡◌, ◌≤◌, ◌∷◌, MatchOption, OnOk};
+ghost use Rattle.mj_cells.specs.Table.{put_all};
+ghost use Rattle.mj_tables.specs.Layered.{all_writes, ended, unended, NoneEnded};
+ghost use Rattle.mj_tables.specs.Slots.{slots_of, safe_cells, rooms, all_room, all_projected, all_settled, AreLaid, SameAhead};
+
+use crate::group::Group;
+use crate::slot::{Slot, make_room, project, settle};
+use mj_cells::{CellKey, CellWrite};
+use std::alloc::{AllocError, Global};
+use std::collections::{BTreeMap, VecDeque};
+
+/// Makes room for the keys of these writes.
+pub fn make_all_room(
+    alloc: Global,
+    slots: &mut BTreeMap<CellKey, Slot>,
+    ws: &[CellWrite],
+) -> Result<(), AllocError>
+    ensures ok { OnOk result (slots_of slots.new ≡ all_room (slots_of slots.old) ws.now) }
+    ensures safe { safe_cells (slots_of slots.new) ≡ safe_cells (slots_of slots.old) }
+    ensures ahead { SameAhead (slots_of slots.old) (slots_of slots.new) }
+{
+    for w in ws {
+        let key = w.key.copy(alloc)?;
+        make_room(slots, key)?;
+    }
+    Ok(())
+}
+
+/// Puts the values of a group over what its keys hold.
+pub fn project_all(slots: &mut BTreeMap<CellKey, Slot>, ws: Vec<CellWrite>, ends: u64)
+    ensures { slots_of slots.new ≡ all_projected ends (slots_of slots.old) ws.items }
+{
+    for w in ws {
+        let CellWrite { key, value } = w;
+        project(slots, &key, value, ends);
+    }
+}
+
+/// Makes the values of a group the safe ones.
+pub fn settle_all(slots: &mut BTreeMap<CellKey, Slot>, ws: Vec<CellWrite>, ends: u64)
+    ensures { slots_of slots.new ≡ all_settled ends (slots_of slots.old) ws.items }
+{
+    for w in ws {
+        let CellWrite { key, value } = w;
+        settle(slots, &key, value, ends);
+    }
+}
+
+// The first group, where it ends at or below the position.
+fn pop_ended(groups: &mut VecDeque<Group>, upto: u64) -> Option<Group>
+    ensures { MatchOption result ((groups.new.items ≡ groups.old.items) × NoneEnded upto groups.old.items) (λ g. (groups.old.items ≡ g ∷ groups.new.items) × (g.ends ≤ upto)) }
+{
+    let is_ended = match groups.front() {
+        Some(group) => group.ends <= upto,
+        None => false,
+    };
+    if is_ended { groups.pop_front() } else { None }
+}
+
+/// Makes the groups that end at or below the position safe.
+pub fn settle_ended(slots: &mut BTreeMap<CellKey, Slot>, groups: &mut VecDeque<Group>, upto: u64)
+    requires { AreLaid (slots_of slots.old) groups.old.items }
+    ensures groups { groups.new.items ≡ unended upto groups.old.items }
+    ensures safe { safe_cells (slots_of slots.new) ≡ put_all (safe_cells (slots_of slots.old)) (all_writes (ended upto groups.old.items)) }
+    ensures rooms { rooms (slots_of slots.new) ≡ rooms (slots_of slots.old) }
+    ensures laid { AreLaid (slots_of slots.new) groups.new.items }
+{
+    while let Some(group) = pop_ended(groups, upto) {
+        let ends = group.ends;
+        settle_all(slots, group.writes.into_vec(), ends);
+    }
+}

@@ -1,0 +1,103 @@
+//! What a key holds, and the room for it.
+
+ghost use Rattle.std.specs.Prelude.{◌≡◌, OnOk, OnErr};
+ghost use Rattle.std.specs.Option.{option_copied};
+ghost use Rattle.mj_tables.specs.Layered.{is_there};
+ghost use Rattle.mj_tables.specs.Slots.{early_in, there_in, slots_of, with_room, altered, projecting, settling, is_last};
+
+use mj_cells::{CellKey, CellValue};
+use std::alloc::{AllocError, Global};
+use std::collections::BTreeMap;
+
+/// The last value that is not safe yet, and where the last group that writes the key ends.
+#[derive(Drop)]
+pub struct Ahead {
+    pub value: CellValue,
+    pub last: u64,
+}
+
+/// The safe value of a key, and what stands over it. A slot with neither is room.
+#[derive(Drop)]
+pub struct Slot {
+    pub safe: Option<CellValue>,
+    pub ahead: Option<Ahead>,
+}
+
+impl Slot {
+    /// The value with all groups' writes.
+    pub fn early(&self) -> Option<&CellValue>
+        ensures { option_copied result ≡ early_in self.now }
+    {
+        match &self.ahead {
+            Some(ahead) => Some(&ahead.value),
+            None => self.safe.as_ref(),
+        }
+    }
+
+    /// The same, where it is neither gone nor null.
+    pub fn there(&self) -> Option<&CellValue>
+        ensures { option_copied result ≡ there_in self.now }
+    {
+        match self.early() {
+            Some(value) if is_there(value) => Some(value),
+            _ => None,
+        }
+    }
+}
+
+fn is_there(value: &CellValue) -> bool
+    ensures { result ≡ is_there value.now }
+{
+    match value {
+        CellValue::Null(_) => false,
+        CellValue::Gone => false,
+        _ => true,
+    }
+}
+
+/// Makes room for a key. Nothing that is held changes.
+pub fn make_room(slots: &mut BTreeMap<CellKey, Slot>, key: CellKey) -> Result<(), AllocError>
+    ensures ok { OnOk result (slots_of slots.new ≡ with_room (slots_of slots.old) key) }
+    ensures err { OnErr result (slots_of slots.new ≡ slots_of slots.old) }
+{
+    if !slots.contains_key(&key) {
+        let empty = Slot {
+            safe: None,
+            ahead: None,
+        };
+        slots.insert(key, empty)?;
+    }
+    Ok(())
+}
+
+/// Puts a value over what a key with room holds.
+pub fn project(slots: &mut BTreeMap<CellKey, Slot>, key: &CellKey, value: CellValue, ends: u64)
+    ensures { slots_of slots.new ≡ altered (slots_of slots.old) key.now (projecting value ends) }
+{
+    if let Some(slot) = slots.get_mut(key) {
+        slot.ahead = Some(Ahead { value, last: ends });
+    }
+}
+
+/// Makes a value of a group that ends here the safe one, where the key has room.
+pub fn settle(slots: &mut BTreeMap<CellKey, Slot>, key: &CellKey, value: CellValue, ends: u64)
+    ensures { slots_of slots.new ≡ altered (slots_of slots.old) key.now (settling value ends) }
+{
+    if let Some(slot) = slots.get_mut(key) {
+        slot.safe = Some(value);
+        let is_last = is_last(&slot.ahead, ends);
+        if is_last {
+            slot.ahead = None;
+        }
+    }
+}
+
+// Whether no later group writes the key.
+fn is_last(ahead: &Option<Ahead>, ends: u64) -> bool
+    ensures { result ≡ is_last ends ahead.now }
+{
+    match ahead {
+        Some(ahead) => ahead.last <= ends,
+        None => true,
+    }
+}
