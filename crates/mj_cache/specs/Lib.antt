@@ -1,0 +1,9 @@
+pub mod Cached
+pub mod Refused
+pub mod Parts
+pub mod Reached
+pub mod Rows
+pub mod Kinds
+pub mod Judged
+pub mod Indexed
+pub mod Inside

@@ -1,0 +1,169 @@
+//! The cache of a rank's cells.
+
+ghost use Rattle.std.specs.Prelude.{◌≡◌, None, IfOk, IfErr, OnOk};
+ghost use Rattle.std.specs.Option.{option_copied, option_map};
+ghost use Rattle.mj_maps.specs.Map.{get};
+ghost use Rattle.mj_tree.specs.State.{entry_count};
+ghost use Rattle.mj_cells.specs.Cell.{AllFit};
+ghost use Rattle.mj_cells.specs.Next.{cell_of};
+ghost use Rattle.mj_cells.specs.Table.{table_of};
+ghost use Rattle.mj_tables.specs.Layered.{all_writes, writes_key, next_there};
+ghost use Rattle.mj_cache.specs.Cached.{begun, made_safe, early_cells, early_table, early_tree, own_damage, primary_of, inodes_of, sessions_of, opens_of};
+ghost use Rattle.mj_cache.specs.Refused.{IsRefusal};
+ghost use Rattle.mj_cache.specs.Indexed.{IsIndexOf};
+ghost use Rattle.mj_tables.specs.Layered.{early_cells as layered_cells};
+
+use crate::damage::own_damage;
+use crate::index::{Index, Sums, index_of};
+use crate::refusal::CacheRefusal;
+use mj_base::{Ino, RankNo};
+use mj_cells::{CellKey, CellTable, CellValue, CellView};
+use mj_tables::Layers;
+use std::alloc::{AllocError, Global};
+use std::marker::Model;
+
+/// The safe cells of a rank, and over them the groups of writes that are not safe yet. What all of them make, the early table,
+/// has no damage.
+#[derive(Drop)]
+pub struct Cache {
+    rank: RankNo,
+    layers: Layers,
+    index: Index,
+}
+
+impl Model for Cache {
+    ghost use Rattle.mj_cache.specs.Cached.{CacheValue, cache_code};
+
+    ghost Value = { CacheValue };
+
+    ghost coded = { cache_code };
+
+    ghost use Rattle.mj_cache.specs.Inside.{cache_in, IsSound};
+
+    ghost view = { cache_in };
+
+    ghost invariant = { IsSound };
+}
+
+// The index of the early cells.
+fn early_index(alloc: Global, rank: RankNo, layers: &Layers) -> Result<Index, AllocError>
+    requires { own_damage rank (table_of (layered_cells layers.now)) ≡ None }
+    ensures { IfOk result (IsIndexOf rank (layered_cells layers.now)) }
+{
+    let cells = layers.cells(alloc)?;
+    index_of(alloc, rank, &cells)
+}
+
+// The index of the early cells, or their first damage.
+fn examine(alloc: Global, rank: RankNo, layers: &Layers) -> Result<Index, CacheRefusal>
+    ensures sound { OnOk result (own_damage rank (table_of (layered_cells layers.now)) ≡ None) }
+    ensures index { IfOk result (IsIndexOf rank (layered_cells layers.now)) }
+    ensures refused { IfErr result (IsRefusal (own_damage rank (table_of (layered_cells layers.now)))) }
+{
+    if let Some(damage) = own_damage(alloc, rank, layers)? {
+        return Err(CacheRefusal::NotTree(damage));
+    }
+    let index = early_index(alloc, rank, layers)?;
+    Ok(index)
+}
+
+impl Cache {
+    /// The cache of a table without damage, or the table's first damage.
+    pub fn new(alloc: Global, table: CellTable, rank: RankNo) -> Result<Cache, CacheRefusal>
+        ensures cache { OnOk result (own_damage rank (table_of table) ≡ None) }
+        ensures holds { IfOk result (λ c. c ≡ begun rank table) }
+        ensures refused { IfErr result (IsRefusal (own_damage rank (table_of table))) }
+    {
+        table.all_fit();
+        let layers = Layers::of_table(alloc, table)?;
+        let index = match examine(alloc, rank, &layers) {
+            Ok(index) => index,
+            Err(why) => return Err(why),
+        };
+        Ok(Cache {
+            rank,
+            layers,
+            index,
+        })
+    }
+
+    /// Whose cells these are.
+    pub fn rank(&self) -> RankNo
+        ensures { result ≡ self.now.rank }
+    {
+        self.rank
+    }
+
+    /// Each value fits its key.
+    pub fn all_fit(&self)
+        ensures safe { AllFit self.now.safe }
+        ensures early { AllFit (early_cells self.now) }
+    {
+        let _ = &self.layers;
+    }
+
+    /// The early table has a tree.
+    pub fn has_tree(&self)
+        ensures { own_damage self.now.rank (early_table self.now) ≡ None }
+    {
+        let _ = &self.layers;
+    }
+
+    /// Takes the groups that end at or below `upto` into the safe cells, without memory.
+    pub fn make_safe(&mut self, upto: u64)
+        ensures { self.new ≡ made_safe upto self.old }
+    {
+        self.layers.make_safe(upto);
+    }
+
+    /// The safe value of a key.
+    pub fn safe(&self, key: &CellKey) -> Option<&CellValue>
+        ensures { option_copied result ≡ get self.now.safe key.now }
+    {
+        self.layers.safe(key)
+    }
+
+    /// The early value of a key.
+    pub fn early(&self, key: &CellKey) -> Option<&CellValue>
+        ensures { option_copied result ≡ get (early_cells self.now) key.now }
+    {
+        self.layers.early(key)
+    }
+
+    /// Whether a group that is not safe yet writes the key.
+    pub fn projects(&self, key: &CellKey) -> bool
+        ensures { result ≡ writes_key key.now (all_writes self.now.groups) }
+    {
+        self.layers.projects(key)
+    }
+
+    /// The key of an inode's full dentry, in a reachable directory or in stray.
+    pub fn primary_of(&self, ino: Ino) -> Option<&CellKey>
+        ensures { option_copied result ≡ primary_of self.now ino }
+    {
+        self.index.primary.get(&ino)
+    }
+
+    /// The early cell with the least key above `after` whose value is neither gone nor null.
+    pub fn next_early(&self, after: Option<&CellKey>) -> Option<CellView<'_>>
+        ensures { option_map cell_of result ≡ next_there (early_cells self.now) (option_copied after.entry) }
+    {
+        self.layers.next_there(after)
+    }
+
+    /// How many entries a directory of the early tree has.
+    pub fn entries_of(&self, dir: Ino) -> u64
+        ensures { result ≡ entry_count (early_tree self.now) dir }
+    {
+        self.index.entries.count(dir.0)
+    }
+
+    /// How much the early tree has.
+    pub fn sums(&self) -> Sums
+        ensures inodes { result.inodes ≡ inodes_of (early_tree self.now) }
+        ensures sessions { result.sessions ≡ sessions_of (early_tree self.now) }
+        ensures opens { result.opens ≡ opens_of (early_tree self.now) }
+    {
+        self.index.sums
+    }
+}
