@@ -8,7 +8,7 @@ ghost use Rattle.mj_format.specs.Formatting.{header_object};
 ghost use Rattle.mj_format.specs.Sending.{head_op, table_ops, header_op};
 
 use mj_base::{Items, ObjectName, RankNo, put_u64};
-use mj_layout::{Header, Layout, Phase};
+use mj_layout::{Header, Layout, Phase, journal_object};
 use mj_store::{HeadAct, ObjectAct, ObjectOp};
 use std::alloc::{AllocError, Global};
 
@@ -21,10 +21,7 @@ const INOS: u64 = 1 << 40;
 pub fn header_object(rank: RankNo) -> ObjectName
     ensures { result ≡ header_object rank }
 {
-    ObjectName::File {
-        ino: 0x200 + rank.number() as u64,
-        index: 0,
-    }
+    journal_object(rank, 0)
 }
 
 /// The root and stray as directories with no names, an inode table that goes on with the rank's first inode, and a session

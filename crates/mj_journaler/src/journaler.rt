@@ -24,7 +24,7 @@ use crate::sent::{Offer, Sent};
 use crate::{Acked, AppendRefusal};
 use mj_base::{Items, OpNo, RankNo};
 use mj_entry::ENVELOPE;
-use mj_layout::{Header, Layout};
+use mj_layout::{Header, Layout, journal_object};
 use mj_store::{ObjectAct, ObjectName, ObjectOp};
 use std::alloc::{AllocError, Global};
 use std::collections::VecDeque;
@@ -258,7 +258,7 @@ impl Journaler {
         let bytes = self.buffer.front(alloc, extent.len as usize)?;
         self.sent.reserve()?;
         self.offer = Some(Offer::Flush(self.flushed + extent.len as u64));
-        let name = object_named(self.rank, extent.index);
+        let name = journal_object(self.rank, extent.index);
         Ok(Some(written(name, extent.offset, bytes)))
     }
 
@@ -301,7 +301,7 @@ impl Journaler {
         let bytes = header.write(alloc)?;
         self.heads.reserve()?;
         self.offer = Some(Offer::Head(header));
-        Ok(Some(written(object_named(self.rank, 0), 0, bytes)))
+        Ok(Some(written(journal_object(self.rank, 0), 0, bytes)))
     }
 
     /// The removal of the least object that was not sent, where its set lies wholly below the expire of the last header
@@ -320,7 +320,7 @@ impl Journaler {
         self.removals.reserve()?;
         self.offer = Some(Offer::Removal(self.removing));
         Ok(Some(ObjectOp {
-            name: object_named(self.rank, self.removing),
+            name: journal_object(self.rank, self.removing),
             act: ObjectAct::Remove,
         }))
     }
@@ -412,7 +412,7 @@ impl Journaler {
             return None;
         }
         Some(ObjectOp {
-            name: object_named(self.rank, index),
+            name: journal_object(self.rank, index),
             act: ObjectAct::Truncate { len: len as u64 },
         })
     }
@@ -454,16 +454,6 @@ fn written(name: ObjectName, at: u32, bytes: Vec<u8>) -> ObjectOp
             at: at as u64,
             bytes: Items::from_vec(bytes),
         },
-    }
-}
-
-/// The object of a rank's journal with this index.
-fn object_named(rank: RankNo, index: u64) -> ObjectName
-    ensures { result ≡ journal_object rank index }
-{
-    ObjectName::File {
-        ino: 0x200 + rank.number() as u64,
-        index,
     }
 }
 

@@ -9,17 +9,8 @@ ghost use Rattle.mj_probe.specs.Looks.{Looks};
 ghost use Rattle.mj_probe.specs.Missing.{size_of};
 
 use mj_base::RankNo;
-use mj_store::{ObjectName, ObjectStore, StoreFault};
-
-/// The object of a rank's journal with this index.
-pub fn journal_object(rank: RankNo, index: u64) -> ObjectName
-    ensures { result ≡ journal_object rank index }
-{
-    ObjectName::File {
-        ino: 0x200 + u64::from(rank.number()),
-        index,
-    }
-}
+use mj_layout::journal_object;
+use mj_store::{ObjectStore, StoreFault};
 
 /// How many bytes an object of the journal holds, none where it is absent.
 pub fn size_of<S: ObjectStore>(store: &mut S, rank: RankNo, index: u64) -> Result<u64, StoreFault>

@@ -7,10 +7,9 @@ ghost use Rattle.mj_layout.specs.Striping.{IsStriping};
 ghost use Rattle.mj_recovery.specs.Stream.{stream_of};
 ghost use Rattle.mj_probe.specs.Ranges.{RefusesRange, EndsAtHole};
 
-use crate::look::journal_object;
 use crate::refusal::RangeRefusal;
 use mj_base::RankNo;
-use mj_layout::Layout;
+use mj_layout::{Layout, journal_object};
 use mj_store::ObjectStore;
 use std::alloc::Global;
 

@@ -8,11 +8,11 @@ ghost use Rattle.mj_recovery.specs.Journal.{next_entry, entries_in, is_beginning
 ghost use Rattle.mj_recovery.specs.Listed.{image_of};
 
 use crate::refusal::RecoverRefusal;
-use crate::stream::{find, journal_object, stream};
+use crate::stream::{find, stream};
 use mj_base::{Damage, Items, RankNo};
 use mj_entry::{EntryRead, entry_read};
 use mj_event::{Event, EventRefusal, event_read};
-use mj_layout::{Header, HeaderRefusal};
+use mj_layout::{Header, HeaderRefusal, journal_object};
 use mj_store::HeldObject;
 use std::alloc::Global;
 

@@ -3,11 +3,11 @@
 ghost use Rattle.std.specs.Prelude.{◌≡◌, ◌≤◌, ◌^◌, IfOk};
 ghost use Rattle.std.specs.Option.{option_copied};
 ghost use Rattle.mj_store.specs.Object.{same_name};
-ghost use Rattle.mj_recovery.specs.Stream.{byte_at, journal_object, stream};
+ghost use Rattle.mj_recovery.specs.Stream.{byte_at, stream};
 ghost use Rattle.mj_recovery.specs.Listed.{found, image_of};
 
 use mj_base::{ObjectName, RankNo};
-use mj_layout::Layout;
+use mj_layout::{Layout, journal_object};
 use mj_store::HeldObject;
 use std::alloc::{AllocError, Global};
 
@@ -38,16 +38,6 @@ pub fn find<'a>(objects: &'a [HeldObject], name: &ObjectName) -> Option<&'a Held
         }
     }
     None
-}
-
-/// The object of a rank's journal with this index.
-pub fn journal_object(rank: RankNo, index: u64) -> ObjectName
-    ensures { result ≡ journal_object rank index }
-{
-    ObjectName::File {
-        ino: 0x200 + u64::from(rank.number()),
-        index,
-    }
 }
 
 #[tactic(auto, unfolding(crate::specs::Stream::byte_at))]

@@ -23,14 +23,15 @@ const MOST_SESSIONS: usize = 4_096;
 
 const MOST_KEPT: usize = 64;
 
-fn refused(code: Errno) -> Decision
+/// A request that is answered an error.
+pub fn refused(code: Errno) -> Decision
     ensures { result ≡ refused code }
 {
     Decision::Answered(Reply::Error(code.0))
 }
 
-// A refusal is answered, and want of memory is not.
-fn stopped(stop: Stop) -> Result<Decision, AllocError>
+/// A refusal is answered, and want of memory is not.
+pub fn stopped(stop: Stop) -> Result<Decision, AllocError>
     ensures { IsStopAnswer stop result }
 {
     match stop {
@@ -39,8 +40,8 @@ fn stopped(stop: Stop) -> Result<Decision, AllocError>
     }
 }
 
-// What is looked up is answered.
-fn looked(found: Result<Reply, Stop>) -> Result<Decision, AllocError>
+/// What is looked up is answered.
+pub fn looked(found: Result<Reply, Stop>) -> Result<Decision, AllocError>
     ensures { (a : Answer Reply) → Gives found a → IfOk result (λ d. d ≡ looked a) }
 {
     match found {
@@ -49,8 +50,8 @@ fn looked(found: Result<Reply, Stop>) -> Result<Decision, AllocError>
     }
 }
 
-// An effect is accepted.
-fn by_effect(effect: Result<(Ino, Change), Stop>) -> Result<Decision, AllocError>
+/// An effect is accepted.
+pub fn by_effect(effect: Result<(Ino, Change), Stop>) -> Result<Decision, AllocError>
     ensures { (e : Effect) → Gives effect e → IfOk result (λ d. d ≡ by_effect e) }
 {
     match effect {
@@ -59,8 +60,8 @@ fn by_effect(effect: Result<(Ino, Change), Stop>) -> Result<Decision, AllocError
     }
 }
 
-// The attributes of a new inode.
-fn new_attributes(kind: Kind, mode: u16, now: u64, target: Target) -> Attributes
+/// The attributes of a new inode.
+pub fn new_attributes(kind: Kind, mode: u16, now: u64, target: Target) -> Attributes
     ensures { result ≡ new_attributes kind mode now target }
 {
     Attributes {

@@ -30,8 +30,8 @@ pub fn root_attributes(alloc: Global) -> Attributes
     }
 }
 
-// What a record says but for its inode and links.
-fn attributes_of(alloc: Global, record: &InodeRecord) -> Result<Attributes, AllocError>
+/// What a record says but for its inode and links.
+pub fn attributes_of(alloc: Global, record: &InodeRecord) -> Result<Attributes, AllocError>
     ensures { IfOk result (λ a. a ≡ attributes_of «record».now) }
 {
     Ok(Attributes {

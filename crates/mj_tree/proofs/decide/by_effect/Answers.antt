@@ -1,6 +1,6 @@
 use Rattle.std.proofs.Common.{refl}
 use Rattle.mj_tree.specs.Answer.{by_effect}
-use Rattle.mj_tree.proofs.Stopped.{stop_given}
+use Rattle.mj_tree.proofs.Stopping.{stop_given}
 use Rattle.mj_tree.proofs.decide.by_effect.Goals as goal
 
 pub returns-in-Err : goal.returns-in-Err

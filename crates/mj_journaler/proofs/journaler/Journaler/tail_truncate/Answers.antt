@@ -17,7 +17,7 @@ returns-then-min-len c =
 pub returns : goal.returns
 returns c =
     let j = journal_in c.self.inside in
-    let op : ObjectOp = record { name = c.object_named.result; act = Truncate c.front_below-len.result } in
+    let op : ObjectOp = record { name = c.journal_object.result; act = Truncate c.front_below-len.result } in
     subst (λ (k : Journal). Truncates k c.args.index c.args.size op) c.self.view_is
     (truncates j c.args.index c.front_below-len.result c.args.size op c.self.invariant.journal c.front_below-len.ensures (omega (arith, c.min.ensures, c.os.ensures, c.if-min-len.false))
-    (ap (λ (n : ObjectName). let made : ObjectOp = record { name = n; act = Truncate c.front_below-len.result } in made) c.object_named.ensures))
+    (ap (λ (n : ObjectName). let made : ObjectOp = record { name = n; act = Truncate c.front_below-len.result } in made) c.journal_object.ensures))
