@@ -18,7 +18,7 @@ use Rattle.mj_recovery.specs.Objects.{Objects, AreHeld, objects_of}
 use Rattle.mj_recovery.specs.Listed.{image_of, all_listed}
 use Rattle.mj_recovery.specs.Journal.{live_journal, journal_writes}
 use Rattle.mj_recovery.specs.Tree.{reached, reachable, holding, tree_of}
-use Rattle.mj_recovery.specs.Recovered.{Recovery, bad_table, bad_dirfrag, merged_table, merged_with, gathered, merged_damage, or_damage, recovered}
+use Rattle.mj_recovery.specs.Recovered.{Recovery, bad_table, bad_dirfrag, merged_table, merged_with, gathered, merged_damage, or_damage, rebuilt, recovered}
 use Rattle.mj_recovery.specs.Held.{entry, table_in}
 use Rattle.mj_base.specs.ObjectName.{stray_ino}
 use Rattle.mj_recovery.specs.Damage.{first_some, lump_dirs, tree_damage}
@@ -40,11 +40,14 @@ reachable_is c dirs e = e ∙ reachable_are c (in_order c c.in_order)
 journal_is : (rank : ℕ) (hs : List HeldObject) (r : Result LiveJournal Damage) → live_journal (image_of hs) rank ≡ r → live_journal (get (objects_of hs)) rank ≡ r
 journal_is rank hs r e = ap (λ image. live_journal image rank) (sym (image_is hs)) ∙ e
 
-pub gathered_is : (rank : ℕ) (hs : List HeldObject) (j : LiveJournal) (t : Table) (s : PlainState) → live_journal (image_of hs) rank ≡ Ok j → t ≡ merged_table rank (objects_of hs) j.events → s ≡ tree_of rank t
-    → gathered rank (objects_of hs) ≡ Ok (record { journal = j; table = t; tree = s })
-gathered_is rank hs j t s e f g =
-    ap (λ (r : Result LiveJournal Damage). r >>= λ x. Ok (merged_with rank (objects_of hs) x)) (journal_is rank hs _ e)
-    ∙ (λ i. Ok (record { journal = j; table = sym f i; tree = (ap (tree_of rank) (sym f) ∙ sym g) i }))
+pub merged_with_is : (rank : ℕ) (m : Objects) (j : LiveJournal) (t : Table) (s : PlainState) → t ≡ merged_table rank m j.events → s ≡ tree_of rank t
+    → (let found : Recovery = record { journal = j; table = t; tree = s } in found ≡ merged_with rank m j)
+merged_with_is rank m j t s f g = λ i. record { journal = j; table = f i; tree = (g ∙ ap (tree_of rank) f) i }
+
+pub gathered_with : (rank : ℕ) (hs : List HeldObject) (j : LiveJournal) (r : Recovery) → live_journal (image_of hs) rank ≡ Ok j → r ≡ merged_with rank (objects_of hs) j → gathered rank (objects_of hs) ≡ Ok r
+gathered_with rank hs j r e f =
+    ap (λ (x : Result LiveJournal Damage). x >>= λ y. Ok (merged_with rank (objects_of hs) y)) (journal_is rank hs _ e)
+    ∙ ap Ok (sym f)
 
 pub gathered_bad : (rank : ℕ) (hs : List HeldObject) (d : Damage) → live_journal (image_of hs) rank ≡ Err d → gathered rank (objects_of hs) ≡ Err d
 gathered_bad rank hs d e = ap (λ (r : Result LiveJournal Damage). r >>= λ x. Ok (merged_with rank (objects_of hs) x)) (journal_is rank hs _ e)
@@ -67,6 +70,12 @@ recovered_ok rank m r e f = ap (λ (r : Result Recovery Damage). r >>= λ x. or_
 pub recovered_bad : (rank : ℕ) (m : Objects) (r : Recovery) (d : Damage) → gathered rank m ≡ Ok r → Some d ≡ merged_damage rank m r.journal r.table → recovered rank m ≡ Err d
 unfolding recovered
 recovered_bad rank m r d e f = ap (λ (r : Result Recovery Damage). r >>= λ x. or_damage (merged_damage rank m x.journal x.table) x) e ∙ ap (λ o. or_damage o r) (sym f)
+
+pub rebuilt_ok : (rank : ℕ) (m : Objects) (j : LiveJournal) (r : Recovery) → r ≡ merged_with rank m j → None ≡ merged_damage rank m r.journal r.table → rebuilt rank m j ≡ Ok r
+rebuilt_ok rank m j r e f = ap (λ (x : Recovery). or_damage (merged_damage rank m x.journal x.table) x) (sym e) ∙ ap (λ o. or_damage o r) (sym f)
+
+pub rebuilt_bad : (rank : ℕ) (m : Objects) (j : LiveJournal) (r : Recovery) (d : Damage) → r ≡ merged_with rank m j → Some d ≡ merged_damage rank m r.journal r.table → rebuilt rank m j ≡ Err d
+rebuilt_bad rank m j r d e f = ap (λ (x : Recovery). or_damage (merged_damage rank m x.journal x.table) x) (sym e) ∙ ap (λ o. or_damage o r) (sym f)
 
 pub verdict_is : (rank : ℕ) (hs : List HeldObject) (j : LiveJournal) (c : Cells) (tree : PlainTree) (dirs held lumps : List ℕ) (a b d : Option Damage) → AreHeld hs → state_of tree ≡ tree_of rank (table_in c)
     → dirs ≡ reachable (table_in c) → held ≡ stray_ino rank ∷ dirs → lumps ≡ lump_dirs (journal_writes j.events)

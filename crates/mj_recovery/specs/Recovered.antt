@@ -93,6 +93,10 @@ merged_with rank m j = let t = merged_table rank m j.events in record { journal 
 abbrev pub gathered : ℕ → Objects → Result Recovery Damage
 gathered rank m = live_journal (get m) rank >>= λ j. Ok (merged_with rank m j)
 
+-- what a journal recovers to over the cells that objects store
+abbrev pub rebuilt : ℕ → Objects → LiveJournal → Result Recovery Damage
+rebuilt rank m j = or_damage (merged_damage rank m j (merged_table rank m j.events)) (merged_with rank m j)
+
 -- The first damage, or the tree of the merged table.
 unfoldable pub recovered : ℕ → Objects → Result Recovery Damage
 recovered rank m = gathered rank m >>= λ r. or_damage (merged_damage rank m r.journal r.table) r

@@ -26,5 +26,5 @@ pub use laws::{
     probed_end_is_least, reachable_are_listed,
 };
 pub use objects::are_held;
-pub use recover::{Recovery, gather, recovered};
+pub use recover::{Recovery, gather, rebuilt, recovered};
 pub use refusal::RecoverRefusal;

@@ -5,7 +5,7 @@ ghost use Rattle.mj_tree.specs.Meaning.{state_of};
 ghost use Rattle.mj_recovery.specs.Gives.{Gives};
 ghost use Rattle.mj_recovery.specs.Journal.{journal_writes};
 ghost use Rattle.mj_recovery.specs.Objects.{AreHeld, objects_of};
-ghost use Rattle.mj_recovery.specs.Recovered.{gathered, merged_table, merged_damage, recovered};
+ghost use Rattle.mj_recovery.specs.Recovered.{gathered, merged_table, merged_damage, merged_with, rebuilt, recovered};
 ghost use Rattle.mj_recovery.specs.Damage.{first_some, lump_dirs};
 ghost use Rattle.mj_recovery.specs.Tree.{reachable, tree_of};
 ghost use Rattle.mj_recovery.specs.Held.{table_in};
@@ -59,6 +59,27 @@ fn reachable_dirs(alloc: Global, cells: &Cells) -> Result<Vec<Ino>, AllocError>
     reachable(alloc, cells.dentries.as_slice())
 }
 
+// A journal with the merged table and its tree. Nothing of the table is judged.
+fn merge(
+    alloc: Global,
+    objects: &[HeldObject],
+    rank: RankNo,
+    journal: LiveJournal,
+) -> Result<Recovery, AllocError>
+    requires { AreHeld objects.now }
+    ensures is { IfOk result (λ r. recovery_of r ≡ merged_with rank (objects_of objects.now) journal) }
+    ensures tree { IfOk result (λ r. state_of r.tree ≡ tree_of rank (table_in r.cells)) }
+{
+    let cells = merged_cells(alloc, objects, rank, journal.events.as_slice())?;
+    let dirs = reachable_dirs(alloc, &cells)?;
+    let tree = plain_tree(alloc, &cells, &dirs, rank)?;
+    Ok(Recovery {
+        journal,
+        cells,
+        tree,
+    })
+}
+
 /// The live journal of these objects with the merged table and its tree, or the first damage of the journal. Nothing
 /// of the table is judged.
 pub fn gather(
@@ -74,14 +95,8 @@ pub fn gather(
         Ok(journal) => journal,
         Err(why) => return Err(why),
     };
-    let cells = merged_cells(alloc, objects, rank, journal.events.as_slice())?;
-    let dirs = reachable_dirs(alloc, &cells)?;
-    let tree = plain_tree(alloc, &cells, &dirs, rank)?;
-    Ok(Recovery {
-        journal,
-        cells,
-        tree,
-    })
+    let found = merge(alloc, objects, rank, journal)?;
+    Ok(found)
 }
 
 fn push_heads(found: &mut Vec<Ino>, writes: &[CellWrite]) -> Result<(), AllocError>
@@ -152,6 +167,24 @@ pub fn recovered(
         Ok(found) => found,
         Err(why) => return Err(why),
     };
+    match judge(alloc, objects, rank, &found)? {
+        Some(damage) => Err(RecoverRefusal::Damage(damage)),
+        None => Ok(found),
+    }
+}
+
+/// What a journal recovers to over the cells that these objects store: the merged table and its tree, or the first damage of the
+/// objects and of the table.
+pub fn rebuilt(
+    alloc: Global,
+    objects: &[HeldObject],
+    rank: RankNo,
+    journal: LiveJournal,
+) -> Result<Recovery, RecoverRefusal>
+    requires { AreHeld objects.now }
+    ensures { Gives recovery_of result (rebuilt rank (objects_of objects.now) journal) }
+{
+    let found = merge(alloc, objects, rank, journal)?;
     match judge(alloc, objects, rank, &found)? {
         Some(damage) => Err(RecoverRefusal::Damage(damage)),
         None => Ok(found),
