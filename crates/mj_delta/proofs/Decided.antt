@@ -3,7 +3,7 @@ use Rattle.std.proofs.Common.{◌≡◌, ℕ, ◌<◌, ◌≤◌, ◌^◌, ◌-�
 use Rattle.std.specs.Prelude.{IsTrue}
 use Rattle.std.specs.List.{list_all}
 use Rattle.std.proofs.lemmas.Bool.{false≢true, and_parts, ltb-false, leb-false, eqb-false, leb-true}
-use Rattle.mj_base.specs.Name.{is_name, is_path}
+use Rattle.mj_base.specs.Name.{is_name}
 use Rattle.mj_base.specs.Reading.{◌>>=◌}
 use Rattle.mj_base.specs.Record.{IsRecord, target_fits}
 use Rattle.mj_base.specs.declared.record.Kind.TheVariants as kind
@@ -24,7 +24,7 @@ use Rattle.mj_tree.specs.Walk.{Answer, Path, refuse, ◌>>◌, found, is_root, s
 use Rattle.mj_tree.specs.Row.{Effect, is_full, has_all_inodes, most_inodes, most_entries, most_links, at_new, new_attributes, make, link, unlink, rmdir, rename_over, rename, set_attr, is_open, most_opens, open_file, release, effect, lookup, readdir, readlink}
 use Rattle.mj_tree.specs.Answer.{looked, by_effect, most_kept, still_kept, changing, closing, in_session, is_session_open, most_sessions, opening, by_session, by_kept, kept_reply, refused, decision}
 use Rattle.mj_tree.specs.Request.{op_fits}
-use Rattle.mj_delta.specs.Fits.{OpFits, IsSent}
+use Rattle.mj_delta.specs.Fits.{are_names, OpFits, IsSent}
 use Rattle.mj_delta.proofs.NewEntry.{CanBegin}
 
 -- ---- by session and kept replies
@@ -143,13 +143,12 @@ last_is_name : (name : List ℕ) (path : Path) → list_all is_name (name ∷ pa
 last_is_name name [] h = (and_parts _ _ h).0
 last_is_name name (next ∷ path) h = last_is_name next path (and_parts _ _ h).1
 
-pub place_found : (s : PlainState) (path : Path) (code : ℕ) (q : ℕ × List ℕ) → IsTrue (is_path path) → place s path code ≡ Ok q → (is_dir s q.0 ≡ true) × IsTrue (is_name q.1)
+pub place_found : (s : PlainState) (path : Path) (code : ℕ) (q : ℕ × List ℕ) → IsTrue (are_names path) → place s path code ≡ Ok q → (is_dir s q.0 ≡ true) × IsTrue (is_name q.1)
 place_found s [] code q h e = absurd cc
 place_found s (name ∷ names) code q h e =
     let w = bind_ok (parent_from s root (name ∷ names)) (λ dir. Ok (dir, last_name (name ∷ names))) q e in
     let same = ok_same (w.0, last_name (name ∷ names)) q w.2 in
-    let names_are = (and_parts _ _ h).1 in
-    (subst (λ (q : ℕ × List ℕ). is_dir s q.0 ≡ true) same (parent_dir s root name names w.0 w.1), subst (λ (q : ℕ × List ℕ). IsTrue (is_name q.1)) same (last_is_name name names names_are))
+    (subst (λ (q : ℕ × List ℕ). is_dir s q.0 ≡ true) same (parent_dir s root name names w.0 w.1), subst (λ (q : ℕ × List ℕ). IsTrue (is_name q.1)) same (last_is_name name names h))
 
 -- ---- what a walk finds
 
@@ -295,7 +294,7 @@ module _ (s : PlainState) (r : ClientRequest) where
   or_none true b e = absurd (false≢true (sym e))
   or_none false b e = (refl, e)
 
-  make_finds : (path : Path) (a : Attributes) → IsTrue (is_path path) → s.next < 2 ^ 64 → IsRecord (record_of s.next 1 a) → Finds s r (make s path a)
+  make_finds : (path : Path) (a : Attributes) → IsTrue (are_names path) → s.next < 2 ^ 64 → IsRecord (record_of s.next 1 a) → Finds s r (make s path a)
   unfolding make
   make_finds path a is fits said = bind_finds (place s path 17) _ (λ q e. seq_finds (at_new s q) _ (λ f. refuse_finds (has_all_inodes s) 28 _ (λ g.
       let p = place_found s path 17 q is e in
@@ -306,7 +305,7 @@ module _ (s : PlainState) (r : ClientRequest) where
       let entries : entry_count s q.0 < most_entries = leb-false _ _ n.1 in
       record { it = (refl, record { parent = p.0; free = n.0; entries = entries; inodes = few; next = omega (arith, fits, not_last); name = p.1; said = said }) })))
 
-  link_finds : (from to : Path) → IsTrue (is_path to) → Finds s r (link s from to)
+  link_finds : (from to : Path) → IsTrue (are_names to) → Finds s r (link s from to)
   unfolding link
   link_finds from to is = bind_finds (walk s from) _ (λ i w. refuse_finds (is_dir s i) 21 _ (λ h. bind_finds (place s to 17) _ (λ q e. seq_finds (at_new s q) _ (λ f. refuse_finds (nat_le most_links (link_count s i)) 31 _ (λ g.
       let p = place_found s to 17 q is e in
@@ -344,7 +343,7 @@ module _ (s : PlainState) (r : ClientRequest) where
   dir_or_away true c e = inr e
   dir_or_away false c e = inl refl
 
-  rename_finds : (from to : Path) → IsTrue (is_path to) → Finds s r (rename s from to)
+  rename_finds : (from to : Path) → IsTrue (are_names to) → Finds s r (rename s from to)
   unfolding rename
   rename_finds from to is = refuse_finds (is_root from || is_root to) 22 _ (λ _. bind_finds (place s from 22) _ (λ q f. bind_finds (found (get s.links q)) _ (λ i e.
       refuse_finds (is_dir s i && begins from to) 22 _ (λ g. bind_finds (place s to 22) _ (λ p h.

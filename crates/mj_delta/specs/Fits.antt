@@ -1,26 +1,31 @@
 -- The requests that a client can send.
-use Rattle.std.specs.Prelude.{◌<◌, ◌^◌, IsTrue}
-use Rattle.mj_base.specs.Name.{is_path}
+use Rattle.std.specs.Prelude.{ℕ, ◌<◌, ◌^◌, Bool, List, IsTrue}
+use Rattle.std.specs.List.{list_all}
+use Rattle.mj_base.specs.Name.{is_name}
 use Rattle.mj_tree.specs.declared.request.ClientRequest.{ClientRequest}
 use Rattle.mj_tree.specs.declared.request.Op.{Op}
 use Rattle.mj_tree.specs.declared.request.Op.TheVariants.{Mkdir, Create, Symlink, Link, Unlink, Rmdir, Rename, SetAttr, OpenFile, Release, Lookup, Readdir, Readlink}
 use Rattle.mj_tree.specs.Request.{IsRequest}
 
--- its paths are paths, and its numbers fit their types
+-- each is a name
+abbrev pub are_names : List (List ℕ) → Bool
+are_names path = list_all is_name path
+
+-- its paths have names, and its numbers fit their types
 abbrev pub OpFits : Op → Type 0
-OpFits (Mkdir path mode) = IsTrue (is_path path)
-OpFits (Create path mode) = IsTrue (is_path path)
-OpFits (Symlink path target) = IsTrue (is_path path)
-OpFits (Link from to) = IsTrue (is_path from) × IsTrue (is_path to)
-OpFits (Unlink path) = IsTrue (is_path path)
-OpFits (Rmdir path) = IsTrue (is_path path)
-OpFits (Rename from to) = IsTrue (is_path from) × IsTrue (is_path to)
-OpFits (SetAttr path mode uid gid size mtime) = IsTrue (is_path path) × (uid < 2 ^ 32) × (gid < 2 ^ 32) × (size < 2 ^ 64) × (mtime < 2 ^ 64)
-OpFits (OpenFile path) = IsTrue (is_path path)
+OpFits (Mkdir path mode) = IsTrue (are_names path)
+OpFits (Create path mode) = IsTrue (are_names path)
+OpFits (Symlink path target) = IsTrue (are_names path)
+OpFits (Link from to) = IsTrue (are_names from) × IsTrue (are_names to)
+OpFits (Unlink path) = IsTrue (are_names path)
+OpFits (Rmdir path) = IsTrue (are_names path)
+OpFits (Rename from to) = IsTrue (are_names from) × IsTrue (are_names to)
+OpFits (SetAttr path mode uid gid size mtime) = IsTrue (are_names path) × (uid < 2 ^ 32) × (gid < 2 ^ 32) × (size < 2 ^ 64) × (mtime < 2 ^ 64)
+OpFits (OpenFile path) = IsTrue (are_names path)
 OpFits (Release i) = i < 2 ^ 64
-OpFits (Lookup path) = IsTrue (is_path path)
-OpFits (Readdir path) = IsTrue (is_path path)
-OpFits (Readlink path) = IsTrue (is_path path)
+OpFits (Lookup path) = IsTrue (are_names path)
+OpFits (Readdir path) = IsTrue (are_names path)
+OpFits (Readlink path) = IsTrue (are_names path)
 OpFits _ = Unit {0}
 
 pub record IsSent (r : ClientRequest) : Type 0 where

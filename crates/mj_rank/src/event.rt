@@ -9,8 +9,7 @@ ghost use Rattle.mj_tree.specs.Answer.{decision};
 ghost use Rattle.mj_tree.specs.Lists.{session_of};
 ghost use Rattle.mj_tree.specs.Meaning.{state_of};
 ghost use Rattle.mj_rank.specs.Journaled.{IsServedRequest, is_served, is_only_name, event_of, session_begins, directory_begins, change_event, risen, dropped, tids_below, parent_lump, new_lump, version_after, IsNewDirectory, BeginsDirectory, KeepsFew, IsWritable};
-ghost use Rattle.mj_base.specs.Name.{is_path};
-ghost use Rattle.mj_delta.specs.Fits.{IsSent, OpFits};
+ghost use Rattle.mj_delta.specs.Fits.{are_names, IsSent, OpFits};
 ghost use Rattle.mj_rank.specs.Sound.{is_sound};
 
 use mj_base::{ClientId, Ino, InodeRecord, Items, Name, Path, Tid};
@@ -62,7 +61,7 @@ fn session_begins(alloc: Global, r: &ClientRequest) -> Event
     })
 }
 
-/// A client can send a request that is served: its paths are paths, and its numbers fit their types.
+/// A client can send a request that is served: its paths have names, and its numbers fit their types.
 pub fn known(r: &ClientRequest)
     requires { IsServedRequest r.now }
     ensures { IsSent r.entry.now }
@@ -77,14 +76,14 @@ fn known_op(op: &Op)
     ensures { OpFits op.now }
 {
     match op {
-        Op::Mkdir { path, .. } => known_path(path),
+        Op::Mkdir { path, .. } => known_names(path),
         _ => {}
     }
 }
 
-fn known_path(path: &Path)
+fn known_names(path: &Path)
     requires { IsTrue (is_only_name path.now) }
-    ensures { IsTrue (is_path path.now) }
+    ensures { IsTrue (are_names path.now) }
 {
     if let [name] = path.names() {
         let _bytes = name.as_slice();
