@@ -4,7 +4,6 @@ ghost use Rattle.std.specs.Prelude.{◌≡◌, ℕ, ◌+◌, ◌*◌, ◌^◌, �
 ghost use Rattle.mj_store.specs.State.{StoreState, contents};
 ghost use Rattle.mj_store.specs.Moves.{Still, Stays};
 ghost use Rattle.mj_store.specs.Causes.{IsCounted, RefusesRead};
-ghost use Rattle.mj_layout.specs.Striping.{IsStriping};
 ghost use Rattle.mj_recovery.specs.Stream.{probed_end};
 ghost use Rattle.mj_probe.specs.Looks.{Looks};
 ghost use Rattle.mj_probe.specs.Missing.{IsLeastBehind, IsLeastMissing};
@@ -28,8 +27,7 @@ pub fn probe_end<S: ObjectStore>(
     layout: &Layout,
     from: u64,
 ) -> Result<u64, ReadRefusal>
-    requires striping { IsStriping layout.now }
-    requires below { from < 2 ^ 62 }
+    requires { from < 2 ^ 62 }
     ensures told { IfOk result (λ end. (s : StoreState) → S.state store.old ≡ Some s → Still s → end ≡ probed_end (contents s) rank layout.now from) }
     ensures stays { Stays (S.state store.old) (S.state store.new) }
 
@@ -52,13 +50,13 @@ fn least_missing<S: ObjectStore>(
     layout: &Layout,
     from: u64,
 ) -> Result<u64, StoreFault>
-    requires striping { IsStriping layout.now }
-    requires below { from < 2 ^ 62 }
+    requires { from < 2 ^ 62 }
     ensures told { IfOk result (λ end. (s : StoreState) → S.state store.old ≡ Some s → Still s → end ≡ probed_end (contents s) rank layout.now from) }
     ensures within { IfOk result (λ end. (from ≤ end) × (end ≤ 2 ^ 62)) }
     ensures looks { Looks (S.state store.old) (S.state store.new) (S.unreported store.old) (S.unreported store.new) (S.faults store.old) (S.faults store.new) }
     ensures cause { IfErr result (IsCounted (S.faults store.old) (S.faults store.new)) }
 {
+    layout.is_sound();
     let period = layout.period();
     for set in from / period..(END - 1) / period + 1 {
         let at = least_in_set(store, rank, layout, set, from)?;
@@ -77,7 +75,6 @@ fn least_in_set<S: ObjectStore>(
     set: u64,
     from: u64,
 ) -> Result<u64, StoreFault>
-    requires striping { IsStriping layout.now }
     requires low { set * layout.now.sc ≤ 2 ^ 62 }
     requires below { from ≤ 2 ^ 62 }
     ensures told { IfOk result (λ at. (s : StoreState) → S.state store.old ≡ Some s → Still s → IsLeastMissing (contents s) rank layout.now from (set * layout.now.sc) (set * layout.now.sc + layout.now.sc) at) }
@@ -102,8 +99,7 @@ fn least_in_object<S: ObjectStore>(
     index: u64,
     from: u64,
 ) -> Result<u64, StoreFault>
-    requires striping { IsStriping layout.now }
-    requires below { from ≤ 2 ^ 62 }
+    requires { from ≤ 2 ^ 62 }
     ensures told { IfOk result (λ at. (s : StoreState) → S.state store.old ≡ Some s → Still s → IsLeastMissing (contents s) rank layout.now from index (index + 1) at) }
     ensures within { IfOk result (λ at. (from ≤ at) × (at ≤ 2 ^ 62)) }
     ensures looks { Looks (S.state store.old) (S.state store.new) (S.unreported store.old) (S.unreported store.new) (S.faults store.old) (S.faults store.new) }
@@ -115,10 +111,10 @@ fn least_in_object<S: ObjectStore>(
 
 // The least position that stands in an object behind so many bytes, from one on.
 fn least_behind(layout: &Layout, index: u64, size: u64, from: u64) -> u64
-    requires striping { IsStriping layout.now }
-    requires below { from ≤ 2 ^ 62 }
+    requires { from ≤ 2 ^ 62 }
     ensures { IsLeastBehind layout.now index size from result }
 {
+    layout.is_sound();
     let os = layout.os();
     let held = size.min(os as u64) as u32;
     let offset = layout.front_below(index, from).max(held);

@@ -3,7 +3,6 @@
 ghost use Rattle.std.specs.Prelude.{◌≡◌, ℕ, ◌-◌, ◌^◌, ◌<◌, ◌≤◌, Some, IfOk, IfErr, vec_len};
 ghost use Rattle.mj_store.specs.State.{StoreState, contents};
 ghost use Rattle.mj_store.specs.Moves.{Still, Stays};
-ghost use Rattle.mj_layout.specs.Striping.{IsStriping};
 ghost use Rattle.mj_recovery.specs.Stream.{stream_of};
 ghost use Rattle.mj_probe.specs.Ranges.{RefusesRange, EndsAtHole};
 

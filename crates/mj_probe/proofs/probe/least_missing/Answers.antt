@@ -10,7 +10,7 @@ use Rattle.mj_probe.proofs.Least.{in_both, set_small, end_there, end_none}
 use Rattle.mj_probe.proofs.probe.least_missing.Goals as goal
 
 pub least_in_set-requires-clause-low : goal.least_in_set-requires-clause-low
-least_in_set-requires-clause-low g c = set_small c.args.layout.now c.requires.striping c.loop-set.set (omega (arith, c.loop-set-test.true, ap (λ p. (2 ^ 62 - 1) / p) c.period-period.ensures))
+least_in_set-requires-clause-low g c = set_small c.args.layout.now c.is_sound.ensures c.loop-set.set (omega (arith, c.loop-set-test.true, ap (λ p. (2 ^ 62 - 1) / p) c.period-period.ensures))
 
 pub returns-in_err-at-clause-looks : goal.returns-in_err-at-clause-looks
 returns-in_err-at-clause-looks g c = looks_then c.loop-set.invariant.looks c.in_err-at.ensures.looks
@@ -27,7 +27,7 @@ returns-then-at-lt-END-clause-told g c = λ s is still.
     let at = c.in_ok-at.at in
     let now = still_after s (told c.args.store.now) (told c.loop-set.store) is still c.loop-set.invariant.looks.stays in
     let later : from / period layout * layout.sc ≤ set * layout.sc = mul-le (from / period layout) layout.sc set layout.sc (omega (arith, c.loop-set.auto.set, ap (λ p. from / p) c.period-period.ensures)) (omega arith) in
-    end_there (contents s) c.args.rank layout c.requires.striping from set at (omega (arith, c.requires.below)) c.if-at-lt-END.true
+    end_there (contents s) c.args.rank layout c.is_sound.ensures from set at (omega (arith, c.requires)) c.if-at-lt-END.true
     (in_both (contents s) c.args.rank layout from (from / period layout * layout.sc) (set * layout.sc) (set * layout.sc + layout.sc) (2 ^ 62) at at later (omega arith) (omega (arith, c.if-at-lt-END.true))
     (c.loop-set.invariant.found s is still) (c.in_ok-at.ensures.told s now still))
 
@@ -52,10 +52,10 @@ pub returns-clause-told : goal.returns-clause-told
 returns-clause-told g c = λ s is still.
     let layout = c.args.layout.now in
     let from = c.args.from in
-    let z = sizes layout c.requires.striping in
+    let z = sizes layout c.is_sound.ensures in
     let same : (2 ^ 62 - 1) / c.period-period.result ≡ (2 ^ 62 - 1) / period layout = ap (λ p. (2 ^ 62 - 1) / p) c.period-period.ensures in
     let first : from / c.period-period.result ≡ from / period layout = ap (λ p. from / p) c.period-period.ensures in
-    let below : from / period layout ≤ (2 ^ 62 - 1) / period layout = div_rises from (2 ^ 62 - 1) (period layout) (omega (arith, z.period_least)) (omega (arith, c.requires.below)) in
+    let below : from / period layout ≤ (2 ^ 62 - 1) / period layout = div_rises from (2 ^ 62 - 1) (period layout) (omega (arith, z.period_least)) (omega (arith, c.requires)) in
     let ends : c.loop-set.set ≡ (2 ^ 62 - 1) / period layout + 1 = omega (arith, c.loop-set-test.false, c.loop-set.auto.set, c.loop-set.auto.set-end, same, first, below) in
-    end_none (contents s) c.args.rank layout c.requires.striping from (omega (arith, c.requires.below))
+    end_none (contents s) c.args.rank layout c.is_sound.ensures from (omega (arith, c.requires))
     (subst (λ n. IsLeastMissing (contents s) c.args.rank layout from (from / period layout * layout.sc) (n * layout.sc) (2 ^ 62)) ends (c.loop-set.invariant.found s is still))
