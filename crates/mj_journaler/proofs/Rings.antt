@@ -1,9 +1,10 @@
 -- Operations in slots: what is out, and numbers that rise.
-use Rattle.std.proofs.Common.{◌≡◌, inl, inr, ℕ, zero, suc, ◌+◌, ◌<◌, ◌≤◌, Bool, true, false, cond, List, [], ◌∷◌, ◌++◌, length, get_or, set, refl, sym, ◌∙◌, ap, subst, None, Some, arith}
-use Rattle.std.proofs.lemmas.Bool.{eq-eqb, ne_eqb, cases_lt}
+use Rattle.std.proofs.Common.{◌≡◌, inl, inr, ℕ, zero, suc, ◌+◌, ◌<◌, ◌≤◌, Bool, true, false, cond, List, [], ◌∷◌, ◌++◌, length, get_or, set, refl, sym, ◌∙◌, ap, subst, Option, None, Some, arith}
+use Rattle.std.proofs.lemmas.Bool.{eq-eqb, ne_eqb, cases_lt, cond_both, le-leb}
 use Rattle.std.proofs.lemmas.List.{append-nil, get_or-map, length-map, map-set, set-get_or}
 use Rattle.mj_store.specs.Causes.{In}
-use Rattle.mj_journaler.specs.Outstanding.{Rises, Follow, lowest, found, without}
+use Rattle.std.specs.Prelude.{nat_le, IfSome, if◌then◌else◌}
+use Rattle.mj_journaler.specs.Outstanding.{Rises, Follow, lowest, found, without, older, oldest}
 use Rattle.mj_journaler.specs.Ring.{numbers, out_of, Ascends, BeginsOut, EndsOut}
 use Rattle.mj_journaler.specs.declared.sent.Sent.{Sent}
 use Rattle.mj_journaler.specs.declared.sent.Slot.{Slot}
@@ -183,3 +184,56 @@ pub numbers_set : (ss : List Slot) (i : ℕ) (s t : Slot) → i < length ss → 
 numbers_set ss i s t h e same =
     map-set (λ (u : Slot). u.sent.op) ss i s
     ∙ (ap (λ n. set (numbers ss) i n) (ap (λ (w : Sent). w.op) same ∙ sym (number_at ss i t h e)) ∙ set-get_or (numbers ss) i 0)
+
+-- ---- the least number
+
+older_above : (n : ℕ) (x : Sent) (o : Option Sent) → n < x.op → IfSome o (λ v. n < v.op) → n < (older x o).op
+older_above n x None h k = h
+older_above n x (Some v) h k = cond_both (nat_le x.op v.op) x v (λ (w : Sent). n < w.op) (λ b. h) (λ b. k)
+
+least_by : (b : Bool) (n : ℕ) (x : Sent) (xs : List Sent) → n < x.op → IfSome (oldest xs) (λ v. n < v.op) → IfSome (oldest (cond b xs (x ∷ xs))) (λ v. n < v.op)
+least_by true n x xs h k = k
+least_by false n x xs h k = older_above n x (oldest xs) h k
+
+least_later : (n m : ℕ) (o : Option Sent) → n ≤ m → IfSome o (λ v. m < v.op) → IfSome o (λ v. n < v.op)
+least_later n m None h k = tt
+least_later n m (Some v) h k = omega (arith, h, k)
+
+least_above : (n : ℕ) (ss : List Slot) → Rises n (numbers ss) → IfSome (oldest (out_of ss)) (λ v. n < v.op)
+least_above n [] r = tt
+least_above n (s ∷ ss) r = least_by s.done n s.sent (out_of ss) r.0 (least_later n s.sent.op (oldest (out_of ss)) (omega (arith, r.0)) (least_above s.sent.op ss r.1))
+
+older_first : (w : Sent) (o : Option Sent) → IfSome o (λ v. w.op < v.op) → older w o ≡ w
+older_first w None h = refl
+older_first w (Some v) h = ap (λ b. if b then w else v) (le-leb w.op v.op (omega (arith, h)))
+
+-- the first slot has it
+pub first_oldest : (ss : List Slot) (s : Slot) → 0 < length ss → s ≡ get_or ss 0 s → Ascends (numbers ss) → BeginsOut ss → Some s.sent ≡ oldest (out_of ss)
+first_oldest [] s l e a b = absurd (omega arith)
+first_oldest (x ∷ xs) s l e a b =
+    ap (λ (t : Slot). Some t.sent) e ∙ (sym (ap (λ (w : Sent). Some w) (older_first x.sent (oldest (out_of xs)) (least_above x.sent.op xs a))) ∙ ap oldest (sym (out_at x xs b)))
+
+-- ---- the greatest number
+
+in_either : (b : Bool) (x : Sent) (xs : List Sent) (w : Sent) → In w (cond b xs (x ∷ xs)) → In w (x ∷ xs)
+in_either true x xs w i = inr i
+in_either false x xs w i = i
+
+-- no number that is out is above the last slot's
+pub last_most : (ss : List Slot) (s : Slot) (i : ℕ) → i < length ss → length ss ≤ i + 1 → s ≡ get_or ss i s → Ascends (numbers ss) → (w : Sent) → In w (out_of ss) → w.op ≤ s.sent.op
+last_most [] s i l m e a w o = absurd (omega arith)
+last_most (x ∷ []) s zero l m e a w o = elim (in_either x.done x.sent [] w o) [ inl same ↦ omega (arith, ap (λ (v : Sent). v.op) same, ap (λ (t : Slot). t.sent.op) e) | inr none ↦ absurd none ]
+last_most (x ∷ []) s (suc i) l m e a w o = absurd (omega arith)
+last_most (x ∷ y ∷ ys) s zero l m e a w o = absurd (omega arith)
+last_most (x ∷ y ∷ ys) s (suc i) l m e a w o = elim (in_either x.done x.sent (out_of (y ∷ ys)) w o) [
+  | inl same ↦ omega (arith, ap (λ (v : Sent). v.op) same, rises_each x.sent.op (numbers (y ∷ ys)) i a (omega (arith, numbers_long (y ∷ ys))), number_at (y ∷ ys) i s (omega arith) e)
+  | inr there ↦ last_most (y ∷ ys) s i (omega arith) (omega arith) e (rises_ascend x.sent.op (numbers (y ∷ ys)) a) w there
+]
+
+-- and that is one of them
+pub last_out : (ss : List Slot) (s : Slot) (i : ℕ) → i < length ss → length ss ≤ i + 1 → s ≡ get_or ss i s → EndsOut ss → In s.sent (out_of ss)
+last_out [] s i l m e d = absurd (omega arith)
+last_out (x ∷ []) s zero l m e d = subst (λ (t : Slot). In t.sent (out_of (x ∷ []))) (sym e) (subst (λ (m : List Sent). In x.sent m) (sym (out_at x [] d)) (inl refl))
+last_out (x ∷ []) s (suc i) l m e d = absurd (omega arith)
+last_out (x ∷ y ∷ ys) s zero l m e d = absurd (omega arith)
+last_out (x ∷ y ∷ ys) s (suc i) l m e d = in_out x.done x.sent (out_of (y ∷ ys)) s.sent (last_out (y ∷ ys) s i (omega arith) (omega arith) e d)

@@ -1,5 +1,5 @@
 -- What a journaler's calls answer and leave.
-use Rattle.std.specs.Prelude.{ℕ, ◌+◌, ◌-◌, ◌*◌, ◌/◌, ◌^◌, ◌==◌, ◌&&◌, ◌||◌, max, nat_le, nat_lt, Option, Some, None, List, [], ◌∷◌, ◌++◌, length, take, drop, if◌then◌else◌}
+use Rattle.std.specs.Prelude.{ℕ, ◌+◌, ◌-◌, ◌*◌, ◌/◌, ◌^◌, ◌==◌, ◌&&◌, ◌||◌, max, nat_le, nat_lt, Option, Some, None, option_map, List, [], ◌∷◌, ◌++◌, length, take, drop, if◌then◌else◌}
 use Rattle.mj_base.specs.declared.object.ObjectName.{ObjectName}
 use Rattle.mj_base.specs.declared.object.ObjectName.TheVariants.{File}
 use Rattle.mj_base.specs.ObjectName.{journal_ino}
@@ -11,7 +11,7 @@ use Rattle.mj_layout.specs.Header.{header_bytes}
 use Rattle.mj_layout.specs.declared.Header.{Header}
 use Rattle.mj_entry.specs.Entry.{entry_bytes, entry_length}
 use Rattle.mj_journaler.specs.Journal.{Journal, layout_of, end_of, unsafe_of, window_of, flush_end, first_set, trimmed_of}
-use Rattle.mj_journaler.specs.Outstanding.{lowest, found, without, last_end, ends_above}
+use Rattle.mj_journaler.specs.Outstanding.{lowest, found, without, oldest, last_end, ends_above}
 use Rattle.mj_journaler.specs.declared.sent.Sent.{Sent}
 use Rattle.mj_journaler.specs.declared.sent.Offer.{Offer}
 use Rattle.mj_journaler.specs.declared.sent.Offer.TheVariants.{Flush, Head, Removal}
@@ -131,3 +131,25 @@ acknowledged op j = record j {
   live = expire_of (found op j.heads) j.live;
   removals = without op j.removals;
 }
+
+-- ---- what is out
+
+-- of two the one with the lesser number
+abbrev pub earlier : Option (ℕ × ObjectName) → Option (ℕ × ObjectName) → Option (ℕ × ObjectName)
+earlier None b = b
+earlier (Some a) None = Some a
+earlier (Some a) (Some b) = if nat_le a.0 b.0 then Some a else Some b
+
+-- the numbers and objects of a write, a header and a removal
+abbrev pub write_out : Journal → Sent → ℕ × ObjectName
+write_out j w = (w.op, journal_object j.rank (object_of (layout_of j) w.from))
+
+abbrev pub head_out : Journal → Sent → ℕ × ObjectName
+head_out j h = (h.op, journal_object j.rank 0)
+
+abbrev pub removal_out : Journal → Sent → ℕ × ObjectName
+removal_out j r = (r.op, journal_object j.rank r.from)
+
+-- the operation that is out with the least number, and its object
+abbrev pub oldest_sent : Journal → Option (ℕ × ObjectName)
+oldest_sent j = earlier (option_map (write_out j) (oldest j.sent)) (earlier (option_map (head_out j) (oldest j.heads)) (option_map (removal_out j) (oldest j.removals)))

@@ -17,6 +17,16 @@ abbrev pub without : ℕ → List Sent → List Sent
 without op [] = []
 without op (w ∷ ws) = if w.op == op then without op ws else w ∷ without op ws
 
+-- of two the one with the lesser number
+abbrev pub older : Sent → Option Sent → Sent
+older w None = w
+older w (Some v) = if nat_le w.op v.op then w else v
+
+-- the one with the least number
+abbrev pub oldest : List Sent → Option Sent
+oldest [] = None
+oldest (w ∷ ws) = Some (older w (oldest ws))
+
 -- Each has something, and they follow one another between two places.
 abbrev pub Follow : ℕ → List Sent → ℕ → Type 0
 Follow from [] to = from ≤ to

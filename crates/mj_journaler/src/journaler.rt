@@ -1,6 +1,6 @@
 //! The journaler: what it holds, and its calls.
 
-ghost use Rattle.std.specs.Prelude.{◌≡◌, ◌⊎◌, ℕ, ◌+◌, ◌-◌, ◌*◌, ◌^◌, ◌<◌, ◌≤◌, [], ◌∷◌, Option, None, Some, option_map, IsSome, IfSome, MatchOption, MatchResult, IfOk, OnOk, IfErr, OnErr, IsOk, IsErrOf};
+ghost use Rattle.std.specs.Prelude.{◌≡◌, ◌⊎◌, ℕ, ◌+◌, ◌-◌, ◌*◌, ◌^◌, ◌<◌, ◌≤◌, [], ◌∷◌, Option, None, Some, option_map, IsSome, IfSome, MatchOption, MatchResult, IfOk, OnOk, IfErr, OnErr, IsOk, IsErrOf, IsTrue, false};
 ghost use Rattle.std.specs.VecDeque.{deque_len, deque_capacity};
 ghost use Rattle.mj_base.specs.ObjectName.{journal_ino};
 ghost use Rattle.mj_base.specs.declared.object.ObjectName.TheVariants.{File};
@@ -11,7 +11,7 @@ ghost use Rattle.mj_store.specs.Causes.{In};
 ghost use Rattle.mj_store.specs.declared.act.ObjectAct.TheVariants.{Write};
 ghost use Rattle.mj_journaler.specs.Outstanding.{last_end, ends_above};
 ghost use Rattle.mj_journaler.specs.Journal.{Journal, layout_of, end_of, unsafe_of, window_of, flush_end, first_set, trimmed_of, IsNew};
-ghost use Rattle.mj_journaler.specs.Calls.{begun, journal_object, append_refusal, appended, reserved, flush_of, head_of, header_now, removal_of, offer_op, offered, taken, sent_on, acked_to, expire_of, acknowledged};
+ghost use Rattle.mj_journaler.specs.Calls.{begun, journal_object, append_refusal, appended, reserved, flush_of, head_of, header_now, removal_of, offer_op, offered, taken, sent_on, acked_to, expire_of, acknowledged, earlier, write_out, head_out, removal_out, oldest_sent};
 ghost use Rattle.mj_journaler.specs.Keeps.{MaySend, IsLast, IsDone, Truncates, IsBelowTail};
 ghost use Rattle.mj_journaler.specs.Ring.{spare};
 ghost use Rattle.mj_journaler.specs.declared.AppendRefusal.TheVariants.{Memory};
@@ -189,8 +189,8 @@ impl Journaler {
         }
     }
 
-    // Why an entry is refused, but for want of memory.
-    fn refusal(&self, payload: &[u8]) -> Option<AppendRefusal>
+    /// Why an entry of this payload is refused, but for want of memory.
+    pub fn refusal(&self, payload: &[u8]) -> Option<AppendRefusal>
         requires { IsPayload payload.now }
         ensures { result ≡ append_refusal self.now payload.now }
     {
@@ -325,6 +325,46 @@ impl Journaler {
         }))
     }
 
+    /// Whether this number is above each that is out.
+    pub fn is_new(&self, op: OpNo) -> bool
+        ensures yes { IsTrue result → IsNew op self.now }
+        ensures no { result ≡ false → IsNew op self.now → ⊥ }
+    {
+        self.sent.is_below(op.0) && self.heads.is_below(op.0) && self.removals.is_below(op.0)
+    }
+
+    /// The operation that is out with the least number, and its object.
+    pub fn oldest_sent(&self) -> Option<(OpNo, ObjectName)>
+        ensures { result ≡ oldest_sent self.now }
+    {
+        let write = self.write_out(self.sent.first());
+        let head = self.head_out(self.heads.first());
+        let removal = self.removal_out(self.removals.first());
+        earlier(write, earlier(head, removal))
+    }
+
+    fn write_out(&self, write: Option<Sent>) -> Option<(OpNo, ObjectName)>
+        ensures { result ≡ option_map (write_out self.now) write }
+    {
+        let write = write?;
+        let spot = self.header.layout.place(write.from);
+        Some((OpNo(write.op), journal_object(self.rank, spot.index)))
+    }
+
+    fn head_out(&self, head: Option<Sent>) -> Option<(OpNo, ObjectName)>
+        ensures { result ≡ option_map (head_out self.now) head }
+    {
+        let head = head?;
+        Some((OpNo(head.op), journal_object(self.rank, 0)))
+    }
+
+    fn removal_out(&self, removal: Option<Sent>) -> Option<(OpNo, ObjectName)>
+        ensures { result ≡ option_map (removal_out self.now) removal }
+    {
+        let removal = removal?;
+        Some((OpNo(removal.op), journal_object(self.rank, removal.from)))
+    }
+
     /// What was given last is sent, with this number, which is above each that is out.
     pub fn sent(&mut self, op: OpNo)
         requires given { IsSome self.old.offer }
@@ -415,6 +455,20 @@ impl Journaler {
             name: journal_object(self.rank, index),
             act: ObjectAct::Truncate { len: len as u64 },
         })
+    }
+}
+
+/// Of two operations the one with the lesser number.
+fn earlier(
+    a: Option<(OpNo, ObjectName)>,
+    b: Option<(OpNo, ObjectName)>,
+) -> Option<(OpNo, ObjectName)>
+    ensures { result ≡ earlier a b }
+{
+    match (a, b) {
+        (None, b) => b,
+        (Some(a), None) => Some(a),
+        (Some(a), Some(b)) => { if a.0.0 <= b.0.0 { Some(a) } else { Some(b) } }
     }
 }
 

@@ -1,9 +1,9 @@
 //! Operations that were sent and are not acknowledged.
 
-ghost use Rattle.std.specs.Prelude.{◌≡◌, ◌≢◌, ℕ, ◌+◌, ◌≤◌, ◌<◌, [], ◌∷◌, ◌++◌, slice_index, MatchOption, OnOk, OnErr, IfOk};
+ghost use Rattle.std.specs.Prelude.{◌≡◌, ◌≢◌, ℕ, ◌+◌, ◌≤◌, ◌<◌, false, [], ◌∷◌, ◌++◌, slice_index, MatchOption, OnOk, OnErr, IfOk, IsTrue};
 ghost use Rattle.std.specs.VecDeque.{deque_len};
 ghost use Rattle.mj_store.specs.Causes.{In};
-ghost use Rattle.mj_journaler.specs.Outstanding.{lowest, without, found, Follow};
+ghost use Rattle.mj_journaler.specs.Outstanding.{lowest, without, found, oldest, Follow};
 ghost use Rattle.mj_journaler.specs.Ring.{numbers, out_of, spare, Ascends, BeginsOut, EndsOut};
 ghost use Rattle.mj_journaler.specs.declared.sent.Sent.{Sent};
 
@@ -21,13 +21,13 @@ pub struct Ring {
 }
 
 impl Model for Ring {
-    ghost use Rattle.mj_journaler.specs.Ring.{Ringed, numbers, out_of, spare, Ascends, BeginsOut};
+    ghost use Rattle.mj_journaler.specs.Ring.{Ringed, numbers, out_of, spare, Ascends, BeginsOut, EndsOut};
 
     ghost Value = { Ringed };
 
     ghost view = { λ a. record { sent = out_of a.slots.items; room = spare a.slots } };
 
-    ghost invariant = { λ a. Ascends (numbers a.slots.items) × BeginsOut a.slots.items };
+    ghost invariant = { λ a. Ascends (numbers a.slots.items) × BeginsOut a.slots.items × EndsOut a.slots.items };
 }
 
 impl Ring {
@@ -63,7 +63,6 @@ impl Ring {
         requires newest { (w : Sent) → In w self.old.sent → w.op < sent.op }
         ensures { self.new.sent ≡ self.old.sent ++ sent ∷ [] }
     {
-        drop_done_behind(&mut self.slots);
         self.slots.push_back_reserved(Slot { sent, done: false });
     }
 
@@ -75,7 +74,29 @@ impl Ring {
     {
         let settled = mark_done(&mut self.slots, op);
         drop_done_ahead(&mut self.slots);
+        drop_done_behind(&mut self.slots);
         settled
+    }
+
+    /// Whether each of them has a lesser number.
+    pub fn is_below(&self, op: u64) -> bool
+        ensures yes { IsTrue result → (w : Sent) → In w self.now.sent → w.op < op }
+        ensures no { result ≡ false → ((w : Sent) → In w self.now.sent → w.op < op) → ⊥ }
+    {
+        match self.slots.back() {
+            Some(slot) => slot.sent.op < op,
+            None => true,
+        }
+    }
+
+    /// The one with the least number.
+    pub fn first(&self) -> Option<Sent>
+        ensures { result ≡ oldest self.now.sent }
+    {
+        match self.slots.front() {
+            Some(slot) => Some(slot.sent),
+            None => None,
+        }
     }
 
     /// Where the first of them begins, or else the end.
