@@ -1,0 +1,35 @@
+use Rattle.std.proofs.Common.{◌≡◌, ◌+◌, ◌-◌, List, ◌++◌, ℕ, length, length-drop, drop, Ok, ap, sym, ◌∙◌, arith}
+use Rattle.std.proofs.lemmas.List.{drop-drop}
+use Rattle.mj_recovery.specs.declared.journal.LiveEvent.{LiveEvent}
+use Rattle.mj_replay.specs.Pieces.{behind, entries_from}
+use Rattle.mj_replay.proofs.Turns.{next_within, piece_step, piece_tail, piece_wrong}
+use Rattle.mj_replay.proofs.piece.read_piece.Goals as goal
+
+pub returns-in-Err-clause-refused : goal.returns-in-Err-clause-refused
+returns-in-Err-clause-refused c = λ more f.
+    let l = c.entries in
+    piece_wrong c.in-Err.why c.args.keep l.events.items l.rest.now more l.here c.args.write _ (l.invariant.found more f) (omega (arith, c.entries-test.true)) f c.in-Err.ensures.is
+
+pub returns-in-None-clause-told : goal.returns-in-None-clause-told
+returns-in-None-clause-told c = λ more f.
+    let l = c.entries in
+    l.invariant.found more f ∙ piece_tail c.args.keep l.events.items l.rest.now more l.here c.args.write (omega (arith, c.entries-test.true)) f (c.in-Ok.ensures.is ∙ ap Ok c.in-None.is)
+
+pub entries-preserved : goal.entries-preserved
+entries-preserved c =
+    let l = c.entries in
+    let event = c.in-Some.event in
+    let ends = c.in-Some.ends in
+    let found = c.in-Ok.ensures.is ∙ ap Ok c.in-Some.is in
+    let w = next_within c.entries.rest.now c.entries.here c.args.write (c.in-Some.event, c.in-Some.ends) found in
+    let more_ends : (c.entries.here - c.args.at) + (c.in-Some.ends - c.entries.here) ≡ c.in-Some.ends - c.args.at = omega (arith, w.0, l.invariant.above) in
+    record {
+      found = λ more f.
+          l.invariant.found more f
+          ∙ (piece_step c.args.keep l.events.items l.rest.now more l.here c.args.write (event, ends) (omega (arith, c.entries-test.true)) f found
+          ∙ (ap (λ (es : List LiveEvent). behind es (entries_from (drop (ends - l.here) l.rest.now ++ more) ends c.args.write)) (sym c.in_ok-push-in-Some.ensures.items)
+          ∙ ap (λ (bs : List ℕ). behind c.push.new.self.items (entries_from (bs ++ more) ends c.args.write)) (sym c.behind-rest.ensures)));
+      above = omega (arith, l.invariant.above, w.0);
+      ends = omega (arith, ap length c.behind-rest.ensures, length-drop (c.in-Some.ends - c.entries.here) c.entries.rest.now, w.0, w.1, l.invariant.ends);
+      left = c.behind-rest.ensures ∙ (ap (drop (ends - l.here)) l.invariant.left ∙ (drop-drop (ends - l.here) (l.here - c.args.at) c.args.bytes.now ∙ ap (λ k. drop k c.args.bytes.now) more_ends));
+    }
