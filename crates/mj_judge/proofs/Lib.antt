@@ -1,0 +1,6 @@
+pub mod PartMaps
+pub mod Passes
+pub mod Counted
+pub mod Alike
+pub mod Distinct
+pub mod FoundRows

@@ -1,0 +1,389 @@
+//! The first damage of a table.
+
+ghost use Rattle.std.specs.Prelude.{◌≡◌, ℕ, map, IfOk};
+ghost use Rattle.std.specs.Option.{option_map};
+ghost use Rattle.mj_base.specs.declared.damage.Damage.TheVariants as damage;
+ghost use Rattle.mj_cells.specs.Next.{cell_of};
+ghost use Rattle.mj_tables.specs.Layered.{early_cells};
+ghost use Rattle.mj_recovery.specs.Damage.{least, twice, headless, first_open, opened_by, over, over_entries};
+ghost use Rattle.mj_judge.specs.Rows.{count_in, version_at};
+ghost use Rattle.mj_judge.specs.Judged.{held, lone, wrong_counts, all_dirs, beyond, next_of, wrong_opens, wrong_replies, too_much, kept_inodes, found_damage, entry_times, link_times, open_times};
+
+use crate::counts::Counts;
+use crate::dentries::{dentry_dirs, full_inodes, kind_inodes, link_dirs, link_inodes};
+use crate::kinds::kinds_of;
+use crate::parts::{head_dirs, kept_replies, next_ino, opens, sessions};
+use crate::range::{push_low, push_misnamed, push_not_given, push_unknown};
+use crate::rows::{
+    bad_opens, bad_replies, clients_of, headless, kept_of, least, least_client, lone_remotes,
+    miscounted, opened_inodes, over_dirs, reply_clients, twice,
+};
+use mj_base::{ClientId, Damage, Ino, Kind, RankNo};
+use mj_cells::CellView;
+use mj_tables::Layers;
+use std::alloc::{AllocError, Global};
+use std::collections::BTreeSet;
+
+/// The limits of one rank.
+const MOST_INODES: usize = 1_048_576;
+
+const MOST_SESSIONS: usize = 4_096;
+
+const MOST_OPENS: usize = 65_536;
+
+fn missing_head(
+    alloc: Global,
+    rank: RankNo,
+    layers: &Layers,
+    dirs: &BTreeSet<Ino>,
+) -> Result<Option<Damage>, AllocError>
+    ensures { IfOk result (λ o. o ≡ option_map damage.DirfragMissing (least (headless (version_at (early_cells layers.now)) (held rank dirs.now.keys)))) }
+{
+    let found = headless(alloc, layers, rank, dirs)?;
+    match least(&found) {
+        Some(dir) => Ok(Some(Damage::DirfragMissing(dir))),
+        None => Ok(None),
+    }
+}
+
+fn repeated(alloc: Global, inodes: &[Ino]) -> Result<Vec<Ino>, AllocError>
+    ensures { IfOk result (λ v. v.items ≡ twice inodes.now) }
+{
+    let counts = Counts::of_inodes(alloc, inodes)?;
+    twice(alloc, &counts, inodes)
+}
+
+fn two_primaries(alloc: Global, inodes: &[Ino]) -> Result<Option<Damage>, AllocError>
+    ensures { IfOk result (λ o. o ≡ option_map damage.TwoPrimaries (least (twice inodes.now))) }
+{
+    let found = repeated(alloc, inodes)?;
+    match least(&found) {
+        Some(ino) => Ok(Some(Damage::TwoPrimaries(ino))),
+        None => Ok(None),
+    }
+}
+
+fn lone(
+    alloc: Global,
+    rank: RankNo,
+    dirs: &BTreeSet<Ino>,
+    cells: &[CellView<'_>],
+) -> Result<Vec<Ino>, AllocError>
+    ensures { IfOk result (λ v. v.items ≡ lone rank (map cell_of cells.now) dirs.now.keys) }
+{
+    let kinds = kinds_of(alloc, rank, dirs, cells)?;
+    lone_remotes(alloc, dirs, &kinds, cells)
+}
+
+fn no_primary(
+    alloc: Global,
+    rank: RankNo,
+    dirs: &BTreeSet<Ino>,
+    cells: &[CellView<'_>],
+) -> Result<Option<Damage>, AllocError>
+    ensures { IfOk result (λ o. o ≡ option_map damage.NoPrimary (least (lone rank (map cell_of cells.now) dirs.now.keys))) }
+{
+    let found = lone(alloc, rank, dirs, cells)?;
+    match least(&found) {
+        Some(ino) => Ok(Some(Damage::NoPrimary(ino))),
+        None => Ok(None),
+    }
+}
+
+fn wrong_counts(
+    alloc: Global,
+    rank: RankNo,
+    dirs: &BTreeSet<Ino>,
+    cells: &[CellView<'_>],
+) -> Result<Vec<Ino>, AllocError>
+    ensures { IfOk result (λ v. v.items ≡ wrong_counts rank (map cell_of cells.now) dirs.now.keys) }
+{
+    let inodes = link_inodes(alloc, dirs, cells)?;
+    let links = Counts::of_inodes(alloc, &inodes)?;
+    miscounted(alloc, rank, dirs, &links, cells)
+}
+
+fn bad_links(
+    alloc: Global,
+    rank: RankNo,
+    dirs: &BTreeSet<Ino>,
+    cells: &[CellView<'_>],
+) -> Result<Option<Damage>, AllocError>
+    ensures { IfOk result (λ o. o ≡ option_map damage.BadLinks (least (wrong_counts rank (map cell_of cells.now) dirs.now.keys))) }
+{
+    let found = wrong_counts(alloc, rank, dirs, cells)?;
+    match least(&found) {
+        Some(ino) => Ok(Some(Damage::BadLinks(ino))),
+        None => Ok(None),
+    }
+}
+
+// The directories that have a cell.
+fn cell_dirs(alloc: Global, cells: &[CellView<'_>]) -> Result<Vec<Ino>, AllocError>
+    ensures { IfOk result (λ v. v.items ≡ all_dirs (map cell_of cells.now)) }
+{
+    let mut all = dentry_dirs(alloc, cells)?;
+    let heads = head_dirs(alloc, cells)?;
+    all.extend_from_slice(&heads)?;
+    Ok(all)
+}
+
+fn beyond(
+    alloc: Global,
+    rank: RankNo,
+    next: Ino,
+    dirs: &BTreeSet<Ino>,
+    cells: &[CellView<'_>],
+) -> Result<Vec<Ino>, AllocError>
+    ensures { IfOk result (λ v. v.items ≡ beyond rank next (map cell_of cells.now) dirs.now.keys) }
+{
+    let inodes = full_inodes(alloc, rank, dirs, cells)?;
+    let all = cell_dirs(alloc, cells)?;
+    let mut found = Vec::new(alloc);
+    push_low(&mut found, rank, next)?;
+    push_not_given(&mut found, rank, next, &inodes)?;
+    push_unknown(&mut found, rank, next, &all)?;
+    push_misnamed(alloc, &mut found, rank, cells)?;
+    Ok(found)
+}
+
+fn bad_next(
+    alloc: Global,
+    rank: RankNo,
+    layers: &Layers,
+    dirs: &BTreeSet<Ino>,
+    cells: &[CellView<'_>],
+) -> Result<Option<Damage>, AllocError>
+    ensures { IfOk result (λ o. o ≡ option_map damage.BadNext (least (beyond rank (next_of (early_cells layers.now)) (map cell_of cells.now) dirs.now.keys))) }
+{
+    let next = next_ino(layers).unwrap_or(Ino(0));
+    let found = beyond(alloc, rank, next, dirs, cells)?;
+    match least(&found) {
+        Some(ino) => Ok(Some(Damage::BadNext(ino))),
+        None => Ok(None),
+    }
+}
+
+fn opened_by(
+    alloc: Global,
+    opens: &[(ClientId, Ino)],
+    ino: Ino,
+) -> Result<Option<Damage>, AllocError>
+    ensures { IfOk result (λ o. o ≡ opened_by opens.now ino) }
+{
+    let clients = clients_of(alloc, ino, opens)?;
+    match least_client(&clients) {
+        Some(client) => Ok(Some(Damage::BadOpen(client, ino))),
+        None => Ok(None),
+    }
+}
+
+fn first_open(alloc: Global, opens: &[(ClientId, Ino)]) -> Result<Option<Damage>, AllocError>
+    ensures { IfOk result (λ o. o ≡ first_open opens.now) }
+{
+    let inodes = opened_inodes(alloc, opens)?;
+    match least(&inodes) {
+        Some(ino) => opened_by(alloc, opens, ino),
+        None => Ok(None),
+    }
+}
+
+fn wrong_opens(
+    alloc: Global,
+    rank: RankNo,
+    layers: &Layers,
+    dirs: &BTreeSet<Ino>,
+    cells: &[CellView<'_>],
+) -> Result<Vec<(ClientId, Ino)>, AllocError>
+    ensures { IfOk result (λ v. v.items ≡ wrong_opens rank (early_cells layers.now) (map cell_of cells.now) dirs.now.keys) }
+{
+    let inodes = kind_inodes(alloc, rank, dirs, Kind::File, cells)?;
+    let files = Counts::of_inodes(alloc, &inodes)?;
+    let opens = opens(alloc, cells)?;
+    bad_opens(alloc, layers, &files, &opens)
+}
+
+fn bad_open(
+    alloc: Global,
+    rank: RankNo,
+    layers: &Layers,
+    dirs: &BTreeSet<Ino>,
+    cells: &[CellView<'_>],
+) -> Result<Option<Damage>, AllocError>
+    ensures { IfOk result (λ o. o ≡ first_open (wrong_opens rank (early_cells layers.now) (map cell_of cells.now) dirs.now.keys)) }
+{
+    let found = wrong_opens(alloc, rank, layers, dirs, cells)?;
+    first_open(alloc, &found)
+}
+
+fn wrong_replies(
+    alloc: Global,
+    layers: &Layers,
+    cells: &[CellView<'_>],
+) -> Result<Vec<ClientId>, AllocError>
+    ensures { IfOk result (λ v. v.items ≡ wrong_replies (early_cells layers.now) (map cell_of cells.now)) }
+{
+    let done = kept_replies(alloc, cells)?;
+    let clients = reply_clients(alloc, &done)?;
+    let counts = Counts::of_clients(alloc, &clients)?;
+    bad_replies(alloc, layers, &counts, &done)
+}
+
+fn bad_session(
+    alloc: Global,
+    layers: &Layers,
+    cells: &[CellView<'_>],
+) -> Result<Option<Damage>, AllocError>
+    ensures { IfOk result (λ o. o ≡ option_map damage.BadSession (least (wrong_replies (early_cells layers.now) (map cell_of cells.now)))) }
+{
+    let found = wrong_replies(alloc, layers, cells)?;
+    match least_client(&found) {
+        Some(client) => Ok(Some(Damage::BadSession(client))),
+        None => Ok(None),
+    }
+}
+
+/// How often the inode of each open stands there.
+pub fn open_counts(alloc: Global, cells: &[CellView<'_>]) -> Result<Counts, AllocError>
+    ensures { IfOk result (λ c. (k : ℕ) → count_in c k ≡ open_times (map cell_of cells.now) k) }
+{
+    let opens = opens(alloc, cells)?;
+    let inodes = opened_inodes(alloc, &opens)?;
+    let counts = Counts::of_inodes(alloc, &inodes)?;
+    Ok(counts)
+}
+
+/// How many links name each inode.
+pub fn link_counts(
+    alloc: Global,
+    dirs: &BTreeSet<Ino>,
+    cells: &[CellView<'_>],
+) -> Result<Counts, AllocError>
+    ensures { IfOk result (λ c. (k : ℕ) → count_in c k ≡ link_times (map cell_of cells.now) dirs.now.keys k) }
+{
+    let inodes = link_inodes(alloc, dirs, cells)?;
+    let counts = Counts::of_inodes(alloc, &inodes)?;
+    Ok(counts)
+}
+
+/// How many entries each directory has.
+pub fn entry_counts(
+    alloc: Global,
+    dirs: &BTreeSet<Ino>,
+    cells: &[CellView<'_>],
+) -> Result<Counts, AllocError>
+    ensures { IfOk result (λ c. (k : ℕ) → count_in c k ≡ entry_times (map cell_of cells.now) dirs.now.keys k) }
+{
+    let inodes = link_dirs(alloc, dirs, cells)?;
+    let counts = Counts::of_inodes(alloc, &inodes)?;
+    Ok(counts)
+}
+
+/// The inodes of full dentries that a link or an open keeps.
+pub fn kept_inodes(
+    alloc: Global,
+    rank: RankNo,
+    dirs: &BTreeSet<Ino>,
+    cells: &[CellView<'_>],
+) -> Result<Vec<Ino>, AllocError>
+    ensures { IfOk result (λ v. v.items ≡ kept_inodes rank (map cell_of cells.now) dirs.now.keys) }
+{
+    let links = link_counts(alloc, dirs, cells)?;
+    let opens = open_counts(alloc, cells)?;
+    let inodes = full_inodes(alloc, rank, dirs, cells)?;
+    kept_of(alloc, &links, &opens, &inodes)
+}
+
+fn over_entries(
+    alloc: Global,
+    dirs: &BTreeSet<Ino>,
+    cells: &[CellView<'_>],
+) -> Result<Option<u64>, AllocError>
+    ensures { IfOk result (λ o. o ≡ over_entries (entry_times (map cell_of cells.now) dirs.now.keys) dirs.now.keys) }
+{
+    let counts = entry_counts(alloc, dirs, cells)?;
+    let found = over_dirs(alloc, &counts, dirs)?;
+    match least(&found) {
+        Some(dir) => Ok(Some(counts.count(dir.0))),
+        None => Ok(None),
+    }
+}
+
+fn over(limit: usize, n: usize) -> Option<u64>
+    ensures { result ≡ over limit n }
+{
+    if limit < n { Some(n as u64) } else { None }
+}
+
+fn too_much(
+    alloc: Global,
+    rank: RankNo,
+    dirs: &BTreeSet<Ino>,
+    cells: &[CellView<'_>],
+) -> Result<Option<u64>, AllocError>
+    ensures { IfOk result (λ o. o ≡ too_much rank (map cell_of cells.now) dirs.now.keys) }
+{
+    if let Some(n) = over_entries(alloc, dirs, cells)? {
+        return Ok(Some(n));
+    }
+    let inodes = kept_inodes(alloc, rank, dirs, cells)?;
+    if let Some(n) = over(MOST_INODES, inodes.len()) {
+        return Ok(Some(n));
+    }
+    let sessions = sessions(alloc, cells)?;
+    if let Some(n) = over(MOST_SESSIONS, sessions.len()) {
+        return Ok(Some(n));
+    }
+    let opens = opens(alloc, cells)?;
+    Ok(over(MOST_OPENS, opens.len()))
+}
+
+fn over_limit(
+    alloc: Global,
+    rank: RankNo,
+    dirs: &BTreeSet<Ino>,
+    cells: &[CellView<'_>],
+) -> Result<Option<Damage>, AllocError>
+    ensures { IfOk result (λ o. o ≡ option_map damage.OverLimit (too_much rank (map cell_of cells.now) dirs.now.keys)) }
+{
+    match too_much(alloc, rank, dirs, cells)? {
+        Some(n) => Ok(Some(Damage::OverLimit(n))),
+        None => Ok(None),
+    }
+}
+
+/// The first damage of these cells, all of which `layers` has, where the directories are the reachable ones.
+#[tactic(auto, using(mj_recovery::proofs::Judged::first_hits, mj_recovery::proofs::Judged::first_skips))]
+pub fn found_damage(
+    alloc: Global,
+    rank: RankNo,
+    layers: &Layers,
+    dirs: &BTreeSet<Ino>,
+    cells: &[CellView<'_>],
+) -> Result<Option<Damage>, AllocError>
+    ensures { IfOk result (λ o. o ≡ found_damage rank (early_cells layers.now) (map cell_of cells.now) dirs.now.keys) }
+{
+    if let Some(damage) = missing_head(alloc, rank, layers, dirs)? {
+        return Ok(Some(damage));
+    }
+    let inodes = full_inodes(alloc, rank, dirs, cells)?;
+    if let Some(damage) = two_primaries(alloc, &inodes)? {
+        return Ok(Some(damage));
+    }
+    if let Some(damage) = no_primary(alloc, rank, dirs, cells)? {
+        return Ok(Some(damage));
+    }
+    if let Some(damage) = bad_links(alloc, rank, dirs, cells)? {
+        return Ok(Some(damage));
+    }
+    if let Some(damage) = bad_next(alloc, rank, layers, dirs, cells)? {
+        return Ok(Some(damage));
+    }
+    if let Some(damage) = bad_open(alloc, rank, layers, dirs, cells)? {
+        return Ok(Some(damage));
+    }
+    if let Some(damage) = bad_session(alloc, layers, cells)? {
+        return Ok(Some(damage));
+    }
+    over_limit(alloc, rank, dirs, cells)
+}

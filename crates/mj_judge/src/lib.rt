@@ -1,0 +1,19 @@
+//! Whether cells have a tree: their reachable directories, and the first damage that recovery would name of them.
+#![tactic(auto)]
+
+mod counts;
+mod damage;
+mod dentries;
+mod judge;
+mod kinds;
+mod parts;
+mod range;
+mod reach;
+mod rows;
+
+pub use counts::Counts;
+pub use damage::own_damage;
+pub use dentries::{full_in, is_dir, is_held, stray_ino};
+pub use judge::{entry_counts, kept_inodes, link_counts, open_counts};
+pub use parts::{dir_of, ino_in, kept_replies, next_ino, opens, sessions, subdir_in};
+pub use reach::{ROOT, reachable};

@@ -1,0 +1,312 @@
+//! What is wrong with a table, row by row.
+
+ghost use Rattle.std.specs.Prelude.{◌≡◌, [], ◌∷◌, ◌==◌, ◌||◌, ℕ, map, filter, filter_map, nat_lt, is_some, IfOk};
+ghost use Rattle.mj_base.specs.ObjectName.{stray_ino};
+ghost use Rattle.mj_tree.specs.State.{root};
+ghost use Rattle.mj_cells.specs.Next.{cell_of};
+ghost use Rattle.mj_tables.specs.Layered.{early_cells};
+ghost use Rattle.mj_recovery.specs.Damage.{or_less, least, headless, bad_opens, client_of};
+ghost use Rattle.mj_judge.specs.Kinds.{is_kind};
+ghost use Rattle.mj_judge.specs.Rows.{count_in, is_counted, miscounted_ino, lone_ino, replies_badly, oldest_at, version_at, kept_of, over_dirs};
+
+use crate::counts::Counts;
+use crate::dentries::{full_in, is_dir, stray_ino};
+use crate::kinds::Kinds;
+use crate::parts::number_at;
+use crate::reach::ROOT;
+use mj_base::{ClientId, Ino, RankNo, Tid};
+use mj_cells::{CellKey, CellValue, CellView};
+use mj_tables::Layers;
+use std::alloc::{AllocError, Global};
+use std::collections::BTreeSet;
+
+fn or_less(n: Ino, found: Option<Ino>) -> Ino
+    ensures { result ≡ or_less n found }
+{
+    match found {
+        None => n,
+        Some(m) => { if m < n { m } else { n } }
+    }
+}
+
+/// The least of some inodes.
+#[tactic(auto, using(mj_recovery::proofs::Least::lesser_more, mj_recovery::proofs::Least::lesser_none))]
+pub fn least(inodes: &[Ino]) -> Option<Ino>
+    ensures { result ≡ least inodes.now }
+{
+    let mut found = None;
+    for n in inodes {
+        found = Some(or_less(*n, found));
+    }
+    found
+}
+
+fn or_less_client(n: ClientId, found: Option<ClientId>) -> ClientId
+    ensures { result ≡ or_less n found }
+{
+    match found {
+        None => n,
+        Some(m) => { if m < n { m } else { n } }
+    }
+}
+
+/// The least of some clients.
+#[tactic(auto, using(mj_recovery::proofs::Least::lesser_more, mj_recovery::proofs::Least::lesser_none))]
+pub fn least_client(clients: &[ClientId]) -> Option<ClientId>
+    ensures { result ≡ least clients.now }
+{
+    let mut found = None;
+    for n in clients {
+        found = Some(or_less_client(*n, found));
+    }
+    found
+}
+
+fn has_head(layers: &Layers, dir: Ino) -> bool
+    ensures { result ≡ is_some (version_at (early_cells layers.now) dir) }
+{
+    number_at(layers, &CellKey::DirHead(dir)).is_some()
+}
+
+// Stray, where it has no head.
+fn headless_stray(alloc: Global, layers: &Layers, rank: RankNo) -> Result<Vec<Ino>, AllocError>
+    ensures { IfOk result (λ v. v.items ≡ headless (version_at (early_cells layers.now)) (stray_ino rank ∷ [])) }
+{
+    let mut found = Vec::new(alloc);
+    if !has_head(layers, stray_ino(rank)) {
+        found.push(stray_ino(rank))?;
+    }
+    Ok(found)
+}
+
+/// The directories, stray among them, that have no head.
+pub fn headless(
+    alloc: Global,
+    layers: &Layers,
+    rank: RankNo,
+    dirs: &BTreeSet<Ino>,
+) -> Result<Vec<Ino>, AllocError>
+    ensures { IfOk result (λ v. v.items ≡ headless (version_at (early_cells layers.now)) (stray_ino rank ∷ dirs.now.keys)) }
+{
+    let mut found = headless_stray(alloc, layers, rank)?;
+    for dir in dirs.iter() {
+        if !has_head(layers, *dir) {
+            found.push(*dir)?;
+        }
+    }
+    Ok(found)
+}
+
+/// Those that were counted twice, or are the root's.
+pub fn twice(alloc: Global, counts: &Counts, inodes: &[Ino]) -> Result<Vec<Ino>, AllocError>
+    ensures { IfOk result (λ v. v.items ≡ filter (λ i. (i == root) || nat_lt 1 (count_in counts.now i)) inodes.now) }
+{
+    let mut found = Vec::new(alloc);
+    for ino in inodes {
+        if *ino == ROOT || 1 < counts.count(ino.0) {
+            found.push(*ino)?;
+        }
+    }
+    Ok(found)
+}
+
+fn lone_ino(dirs: &BTreeSet<Ino>, kinds: &Kinds, cell: &CellView<'_>) -> Option<Ino>
+    ensures { result ≡ lone_ino dirs.now.keys (is_kind kinds.now) (cell_of cell.now) }
+{
+    match (cell.key, cell.value) {
+        (CellKey::Dentry(dir, _), CellValue::Remote(_, ino, kind)) if is_dir(dirs, *dir) => {
+            if kinds.has(*ino, *kind) {
+                None
+            } else {
+                Some(*ino)
+            }
+        }
+        _ => None,
+    }
+}
+
+/// The inodes of the remote dentries of reachable directories that have no full one.
+pub fn lone_remotes(
+    alloc: Global,
+    dirs: &BTreeSet<Ino>,
+    kinds: &Kinds,
+    cells: &[CellView<'_>],
+) -> Result<Vec<Ino>, AllocError>
+    ensures { IfOk result (λ v. v.items ≡ filter_map (lone_ino dirs.now.keys (is_kind kinds.now)) (map cell_of cells.now)) }
+{
+    let mut found = Vec::new(alloc);
+    for cell in cells {
+        if let Some(ino) = lone_ino(dirs, kinds, cell) {
+            found.push(ino)?;
+        }
+    }
+    Ok(found)
+}
+
+fn miscounted_ino(
+    rank: RankNo,
+    dirs: &BTreeSet<Ino>,
+    links: &Counts,
+    cell: &CellView<'_>,
+) -> Option<Ino>
+    ensures { result ≡ miscounted_ino (stray_ino rank ∷ dirs.now.keys) (count_in links.now) (cell_of cell.now) }
+{
+    match full_in(rank, dirs, cell) {
+        Some(inode) => {
+            if u64::from(inode.links) == links.count(inode.ino.0) {
+                None
+            } else {
+                Some(inode.ino)
+            }
+        }
+        None => None,
+    }
+}
+
+/// The inodes whose stored count is not that of their links.
+pub fn miscounted(
+    alloc: Global,
+    rank: RankNo,
+    dirs: &BTreeSet<Ino>,
+    links: &Counts,
+    cells: &[CellView<'_>],
+) -> Result<Vec<Ino>, AllocError>
+    ensures { IfOk result (λ v. v.items ≡ filter_map (miscounted_ino (stray_ino rank ∷ dirs.now.keys) (count_in links.now)) (map cell_of cells.now)) }
+{
+    let mut found = Vec::new(alloc);
+    for cell in cells {
+        if let Some(ino) = miscounted_ino(rank, dirs, links, cell) {
+            found.push(ino)?;
+        }
+    }
+    Ok(found)
+}
+
+/// The opens without a session or without a file's record.
+pub fn bad_opens(
+    alloc: Global,
+    layers: &Layers,
+    files: &Counts,
+    opens: &[(ClientId, Ino)],
+) -> Result<Vec<(ClientId, Ino)>, AllocError>
+    ensures { IfOk result (λ v. v.items ≡ bad_opens (oldest_at (early_cells layers.now)) (is_counted files.now) opens.now) }
+{
+    let mut found = Vec::new(alloc);
+    for open in opens {
+        if oldest_of(layers, open.0).is_none() || !files.has(open.1.0) {
+            found.push((open.0, open.1))?;
+        }
+    }
+    Ok(found)
+}
+
+/// The oldest tid of a client's session.
+fn oldest_of(layers: &Layers, client: ClientId) -> Option<u64>
+    ensures { result ≡ oldest_at (early_cells layers.now) client }
+{
+    number_at(layers, &CellKey::Session(client))
+}
+
+fn replies_badly(layers: &Layers, counts: &Counts, client: ClientId, tid: Tid) -> bool
+    ensures { result ≡ replies_badly (oldest_at (early_cells layers.now)) (count_in counts.now) ((client, tid), 0) }
+{
+    match oldest_of(layers, client) {
+        None => true,
+        Some(oldest) => tid.0 < oldest || 64 < counts.count(u64::from(client.0)),
+    }
+}
+
+/// The clients of kept replies without a session or below its oldest, or of more than 64.
+pub fn bad_replies(
+    alloc: Global,
+    layers: &Layers,
+    counts: &Counts,
+    done: &[((ClientId, Tid), Ino)],
+) -> Result<Vec<ClientId>, AllocError>
+    ensures { IfOk result (λ v. v.items ≡ map (λ (e : (ℕ × ℕ) × ℕ). e.0.0) (filter (replies_badly (oldest_at (early_cells layers.now)) (count_in counts.now)) done.now)) }
+{
+    let mut found = Vec::new(alloc);
+    for reply in done {
+        if replies_badly(layers, counts, reply.0.0, reply.0.1) {
+            found.push(reply.0.0)?;
+        }
+    }
+    Ok(found)
+}
+
+/// The client of each kept reply.
+pub fn reply_clients(
+    alloc: Global,
+    done: &[((ClientId, Tid), Ino)],
+) -> Result<Vec<ClientId>, AllocError>
+    ensures { IfOk result (λ v. v.items ≡ map (λ (e : (ℕ × ℕ) × ℕ). e.0.0) done.now) }
+{
+    let mut found = Vec::new(alloc);
+    for reply in done {
+        found.push(reply.0.0)?;
+    }
+    Ok(found)
+}
+
+/// The inode of each open.
+pub fn opened_inodes(alloc: Global, opens: &[(ClientId, Ino)]) -> Result<Vec<Ino>, AllocError>
+    ensures { IfOk result (λ v. v.items ≡ map (λ (o : ℕ × ℕ). o.1) opens.now) }
+{
+    let mut found = Vec::new(alloc);
+    for open in opens {
+        found.push(open.1)?;
+    }
+    Ok(found)
+}
+
+/// The clients that have an inode open.
+pub fn clients_of(
+    alloc: Global,
+    ino: Ino,
+    opens: &[(ClientId, Ino)],
+) -> Result<Vec<ClientId>, AllocError>
+    ensures { IfOk result (λ v. v.items ≡ filter_map (client_of ino) opens.now) }
+{
+    let mut found = Vec::new(alloc);
+    for open in opens {
+        if open.1 == ino {
+            found.push(open.0)?;
+        }
+    }
+    Ok(found)
+}
+
+/// Those that a link or an open keeps.
+pub fn kept_of(
+    alloc: Global,
+    links: &Counts,
+    opens: &Counts,
+    inodes: &[Ino],
+) -> Result<Vec<Ino>, AllocError>
+    ensures { IfOk result (λ v. v.items ≡ kept_of (count_in links.now) (count_in opens.now) inodes.now) }
+{
+    let mut found = Vec::new(alloc);
+    for ino in inodes {
+        if links.has(ino.0) || opens.has(ino.0) {
+            found.push(*ino)?;
+        }
+    }
+    Ok(found)
+}
+
+/// The directories that have too many entries.
+pub fn over_dirs(
+    alloc: Global,
+    counts: &Counts,
+    dirs: &BTreeSet<Ino>,
+) -> Result<Vec<Ino>, AllocError>
+    ensures { IfOk result (λ v. v.items ≡ over_dirs (count_in counts.now) dirs.now.keys) }
+{
+    let mut found = Vec::new(alloc);
+    for dir in dirs.iter() {
+        if 100_000 < counts.count(dir.0) {
+            found.push(*dir)?;
+        }
+    }
+    Ok(found)
+}
