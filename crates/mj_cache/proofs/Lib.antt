@@ -1,8 +1,2 @@
-pub mod PartMaps
-pub mod Passes
-pub mod Counted
-pub mod Alike
-pub mod Distinct
-pub mod FoundRows
-pub mod IndexPlaces
-pub mod CacheFits
+pub mod PlainMaps
+pub mod PlainReplies

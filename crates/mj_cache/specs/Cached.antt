@@ -1,23 +1,20 @@
 -- What a cache holds: a rank, its safe cells, and over them the groups of writes that are not safe yet. The early table has all
 -- of them, and it always has a tree.
-use Rattle.std.specs.Prelude.{ℕ, Bool, ◌&&◌, ◌==◌, false, List, [], ◌∷◌, ◌++◌, refl, find, Option, option_map}
+use Rattle.std.specs.Prelude.{ℕ, List, [], ◌∷◌, ◌++◌, refl, Option, option_map}
 use Rattle.std.specs.Coded.{Coded, code_by, coded×, coded_ℕ, coded_list}
-use Rattle.mj_base.specs.declared.damage.Damage.{Damage}
-use Rattle.mj_maps.specs.Map.{Map, entries, len, code}
+use Rattle.mj_maps.specs.Map.{Map, code}
 use Rattle.mj_cells.specs.declared.cell.CellKey.{CellKey}
-use Rattle.mj_cells.specs.declared.cell.CellKey.TheVariants as key
 use Rattle.mj_cells.specs.declared.cell.CellValue.{CellValue}
 use Rattle.mj_cells.specs.declared.cell.CellWrite.{CellWrite}
 use Rattle.mj_cells.specs.Cell.{key_cmp}
-use Rattle.mj_cells.specs.Table.{Dentry, Table, table_of, put_all}
-use Rattle.mj_cells.specs.Table.Dentry.{Full, Remote}
+use Rattle.mj_cells.specs.Table.{Table, table_of, put_all}
 use Rattle.mj_tree.specs.State.{PlainState}
-use Rattle.mj_recovery.specs.Tree.{Entry, is_among, holding, tree_of}
-use Rattle.mj_recovery.specs.Damage.{tree_damage, cell_dirs}
+use Rattle.mj_recovery.specs.Tree.{tree_of}
 use Rattle.mj_tables.specs.declared.group.Group.{Group}
 use Rattle.mj_cells.specs.contracts.cell.CellKey as cell_key
 use Rattle.mj_cells.specs.contracts.cell.CellValue as cell_value
 use Rattle.mj_tables.specs.Layered.{group_code, early_of, ended, unended, all_writes}
+use Rattle.mj_index.specs.Places.{full_place, dentry_key}
 
 pub record CacheValue : Type 0 where
   pub rank : ℕ
@@ -52,42 +49,12 @@ early_cells v = early_of v.safe v.groups
 abbrev pub early_table : CacheValue → Table
 early_table v = table_of (early_cells v)
 
--- The first damage of a table by itself: each directory that has a cell counts as one of a live lump.
-abbrev pub own_damage : ℕ → Table → Option Damage
-own_damage rank t = tree_damage rank t (cell_dirs t)
-
 -- the tree of the early table
 abbrev pub early_tree : CacheValue → PlainState
 early_tree v = tree_of v.rank (early_table v)
 
 -- ---- where full dentries stand
 
-abbrev pub is_full_of : ℕ → Dentry → Bool
-is_full_of i (Full version r) = r.ino == i
-is_full_of i (Remote version j kind) = false
-
--- the first full dentry of an inode in these directories
-abbrev pub is_full_at : List ℕ → ℕ → Entry → Bool
-is_full_at dirs i e = is_among dirs e.0.0 && is_full_of i e.1
-
-abbrev pub full_place : ℕ → Table → ℕ → Option (ℕ × List ℕ)
-full_place rank t i = option_map (λ (e : Entry). e.0) (find (is_full_at (holding rank t) i) (entries t.dentries))
-
-abbrev pub dentry_key : ℕ × List ℕ → CellKey
-dentry_key q = key.Dentry q.0 q.1
-
 -- the key of an inode's full dentry, in a reachable directory or in stray
 abbrev pub primary_of : CacheValue → ℕ → Option CellKey
 primary_of v i = option_map dentry_key (full_place v.rank (early_table v) i)
-
--- ---- how much there is
-
--- records, sessions and opens of a tree
-abbrev pub inodes_of : PlainState → ℕ
-inodes_of s = len s.records
-
-abbrev pub sessions_of : PlainState → ℕ
-sessions_of s = len s.sessions
-
-abbrev pub opens_of : PlainState → ℕ
-opens_of s = len s.opens

@@ -1,9 +1,4 @@
 pub mod Cached
 pub mod Refused
-pub mod Parts
-pub mod Reached
-pub mod Rows
-pub mod Kinds
-pub mod Judged
-pub mod Indexed
 pub mod Inside
+pub mod PlainLists

@@ -1,24 +1,31 @@
 //! The cache of a rank's cells.
 
-ghost use Rattle.std.specs.Prelude.{◌≡◌, None, IfOk, IfErr, OnOk};
+ghost use Rattle.std.specs.Prelude.{◌≡◌, None, Some, IfOk, IfErr, OnOk, OnErr};
+ghost use Rattle.std.specs.List.{AllByRecursion};
 ghost use Rattle.std.specs.Option.{option_copied, option_map};
 ghost use Rattle.mj_maps.specs.Map.{get};
-ghost use Rattle.mj_tree.specs.State.{entry_count};
-ghost use Rattle.mj_cells.specs.Cell.{AllFit};
+ghost use Rattle.mj_tree.specs.Listing.{listing};
+ghost use Rattle.mj_tree.specs.Meaning.{state_of};
+ghost use Rattle.mj_tree.specs.State.{entry_count, open_count};
+ghost use Rattle.mj_cells.specs.Cell.{WriteFits, AllFit};
 ghost use Rattle.mj_cells.specs.Next.{cell_of};
-ghost use Rattle.mj_cells.specs.Table.{table_of};
-ghost use Rattle.mj_tables.specs.Layered.{all_writes, writes_key, next_there};
-ghost use Rattle.mj_cache.specs.Cached.{begun, made_safe, early_cells, early_table, early_tree, own_damage, primary_of, inodes_of, sessions_of, opens_of};
+ghost use Rattle.mj_cells.specs.Table.{table_of, overlay};
+ghost use Rattle.mj_tables.specs.Layered.{all_writes, writes_key, next_there, EndBelow};
+ghost use Rattle.mj_cache.specs.Cached.{begun, projected, made_safe, early_cells, early_table, early_tree, primary_of};
+ghost use Rattle.mj_index.specs.Places.{inodes_of, sessions_of, opens_of};
+ghost use Rattle.mj_judge.specs.Own.{own_damage};
 ghost use Rattle.mj_cache.specs.Refused.{IsRefusal};
-ghost use Rattle.mj_cache.specs.Indexed.{IsIndexOf};
+ghost use Rattle.mj_index.specs.Indexed.{IsIndexed};
 ghost use Rattle.mj_tables.specs.Layered.{early_cells as layered_cells};
 
-use crate::damage::own_damage;
-use crate::index::{Index, Sums, index_of};
+use crate::plain::plain_tree;
 use crate::refusal::CacheRefusal;
 use mj_base::{Ino, RankNo};
-use mj_cells::{CellKey, CellTable, CellValue, CellView};
+use mj_cells::{CellKey, CellTable, CellValue, CellView, CellWrite};
+use mj_index::{Index, Sums, early_index, project};
+use mj_judge::own_damage;
 use mj_tables::Layers;
+use mj_tree::PlainTree;
 use std::alloc::{AllocError, Global};
 use std::marker::Model;
 
@@ -45,19 +52,10 @@ impl Model for Cache {
     ghost invariant = { IsSound };
 }
 
-// The index of the early cells.
-fn early_index(alloc: Global, rank: RankNo, layers: &Layers) -> Result<Index, AllocError>
-    requires { own_damage rank (table_of (layered_cells layers.now)) ≡ None }
-    ensures { IfOk result (IsIndexOf rank (layered_cells layers.now)) }
-{
-    let cells = layers.cells(alloc)?;
-    index_of(alloc, rank, &cells)
-}
-
 // The index of the early cells, or their first damage.
 fn examine(alloc: Global, rank: RankNo, layers: &Layers) -> Result<Index, CacheRefusal>
     ensures sound { OnOk result (own_damage rank (table_of (layered_cells layers.now)) ≡ None) }
-    ensures index { IfOk result (IsIndexOf rank (layered_cells layers.now)) }
+    ensures index { IfOk result (IsIndexed rank (layered_cells layers.now)) }
     ensures refused { IfErr result (IsRefusal (own_damage rank (table_of (layered_cells layers.now)))) }
 {
     if let Some(damage) = own_damage(alloc, rank, layers)? {
@@ -109,9 +107,35 @@ impl Cache {
         let _ = &self.layers;
     }
 
-    /// Takes the groups that end at or below `upto` into the safe cells, without memory.
+    /// Adds a group of writes that are not safe yet. It takes all memory first, that of `make_safe` too: after an error the
+    /// cache is as before. Each write takes logarithmic time, and a directory that moves as much for each directory above it. Only
+    /// where a directory that has dentries begins or ceases to be reachable, or a key is written twice, does time grow with the table.
+    pub fn project(
+        &mut self,
+        alloc: Global,
+        ws: Vec<CellWrite>,
+        ends: u64,
+    ) -> Result<(), AllocError>
+        requires fit { AllByRecursion WriteFits ws.items }
+        requires tree { own_damage self.old.rank (overlay (early_table self.old) ws.items) ≡ None }
+        requires above { EndBelow ends self.old.groups }
+        ensures ok { OnOk result (self.new ≡ projected ws.items ends self.old) }
+        ensures err { OnErr result (self.new ≡ self.old) }
+    {
+        project(
+            alloc,
+            self.rank,
+            &mut self.layers,
+            &mut self.index,
+            ws,
+            ends,
+        )
+    }
+
+    /// Takes the groups that end at or below `upto` into the safe cells, without memory. The early cells stay.
     pub fn make_safe(&mut self, upto: u64)
-        ensures { self.new ≡ made_safe upto self.old }
+        ensures safe { self.new ≡ made_safe upto self.old }
+        ensures early { early_table self.new ≡ early_table self.old }
     {
         self.layers.make_safe(upto);
     }
@@ -141,7 +165,7 @@ impl Cache {
     pub fn primary_of(&self, ino: Ino) -> Option<&CellKey>
         ensures { option_copied result ≡ primary_of self.now ino }
     {
-        self.index.primary.get(&ino)
+        self.index.primary_of(ino)
     }
 
     /// The early cell with the least key above `after` whose value is neither gone nor null.
@@ -155,7 +179,14 @@ impl Cache {
     pub fn entries_of(&self, dir: Ino) -> u64
         ensures { result ≡ entry_count (early_tree self.now) dir }
     {
-        self.index.entries.count(dir.0)
+        self.index.entries_of(dir)
+    }
+
+    /// How many clients have an inode of the early tree open.
+    pub fn opens_of(&self, ino: Ino) -> u64
+        ensures { result ≡ open_count (early_tree self.now) ino }
+    {
+        self.index.opens_of(ino)
     }
 
     /// How much the early tree has.
@@ -164,6 +195,21 @@ impl Cache {
         ensures sessions { result.sessions ≡ sessions_of (early_tree self.now) }
         ensures opens { result.opens ≡ opens_of (early_tree self.now) }
     {
-        self.index.sums
+        self.index.sums()
+    }
+    /// The early tree by lists alone.
+    pub fn plain(&self, alloc: Global) -> Result<PlainTree, AllocError>
+        ensures { IfOk result (λ tree. state_of tree ≡ early_tree self.now) }
+    {
+        plain_tree(alloc, self.rank, &self.layers)
+    }
+
+    /// What the early tree has, line by line, as a plain tree tells it.
+    pub fn listing(&self, alloc: Global, full: bool) -> Result<Vec<u8>, AllocError>
+        ensures { IfOk result (λ text. text.items ≡ listing (early_tree self.now) full) }
+    {
+        let tree = self.plain(alloc)?;
+        let text = tree.listing(alloc, full)?;
+        Ok(text)
     }
 }

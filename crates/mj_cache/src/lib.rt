@@ -2,18 +2,10 @@
 #![tactic(auto)]
 
 mod cache;
-mod counts;
-mod damage;
-mod dentries;
-mod index;
-mod judge;
-mod kinds;
-mod parts;
-mod range;
-mod reach;
+mod plain;
+mod plain_sessions;
 mod refusal;
-mod rows;
 
 pub use cache::Cache;
-pub use index::Sums;
+pub use mj_index::Sums;
 pub use refusal::CacheRefusal;

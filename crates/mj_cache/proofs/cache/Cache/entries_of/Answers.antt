@@ -1,8 +1,9 @@
 use Rattle.std.proofs.Common.{ap, ◌∙◌}
 use Rattle.mj_tree.specs.State.{entry_count}
 use Rattle.mj_cache.specs.Cached.{early_tree}
-use Rattle.mj_cache.specs.Rows.{count_in}
+use Rattle.mj_index.proofs.IndexIs.{index_is}
+use Rattle.mj_tables.specs.Layered.{early_cells}
 use Rattle.mj_cache.proofs.cache.Cache.entries_of.Goals as goal
 
 pub returns : goal.returns
-returns c = c.count.ensures ∙ ap (count_in c.self.inside.index.entries) c.dir.view_is ∙ c.self.invariant.index.entries c.args.dir ∙ ap (λ v. entry_count (early_tree v) c.args.dir) c.self.view_is
+returns c = c.entries_of.ensures ∙ (index_is c.self.inside.rank (early_cells c.self.inside.layers) c.self.invariant.undamaged c.self.inside.index c.self.invariant.index).entries c.args.dir ∙ ap (λ v. entry_count (early_tree v) c.args.dir) c.self.view_is

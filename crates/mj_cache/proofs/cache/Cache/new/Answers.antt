@@ -4,7 +4,7 @@ use Rattle.mj_cells.specs.Cell.{WriteFits, AllFit}
 use Rattle.mj_cells.specs.Table.{table_of}
 use Rattle.mj_tables.specs.declared.group.Group.{Group}
 use Rattle.mj_tables.specs.Layered.{all_writes, early_of}
-use Rattle.mj_cache.specs.Cached.{own_damage}
+use Rattle.mj_judge.specs.Own.{own_damage}
 use Rattle.mj_cache.specs.Refused.{IsRefusal}
 use Rattle.mj_cache.proofs.cache.Cache.new.Goals as goal
 

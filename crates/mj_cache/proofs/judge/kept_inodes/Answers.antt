@@ -1,7 +1,0 @@
-use Rattle.std.proofs.Common.{◌∙◌}
-use Rattle.mj_cache.specs.Rows.{kept_of}
-use Rattle.mj_cache.proofs.Counted.{if_ok, agree}
-use Rattle.mj_cache.proofs.judge.kept_inodes.Goals as goal
-
-pub returns : goal.returns
-returns c = if_ok c.kept_of.result _ _ (λ v is. is ∙ (λ j. kept_of (agree _ _ c.in_ok-links.ensures j) (agree _ _ c.in_ok-opens.ensures j) ((c.deref.ensures.value ∙ c.in_ok-inodes.ensures) j))) c.kept_of.ensures

@@ -1,0 +1,10 @@
+pub mod Places
+pub mod Known
+pub mod Said
+pub mod Indexed
+pub mod Following
+pub mod Course
+pub mod Grouped
+pub mod Placed
+pub mod Gentle
+pub mod Turning

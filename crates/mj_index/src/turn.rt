@@ -1,0 +1,285 @@
+//! Whether no directory that has dentries begins or ceases to be reachable with a group of writes.
+
+ghost use Rattle.std.specs.Prelude.{◌≡◌, ℕ, true, Some, IfOk, IfSome};
+ghost use Rattle.std.specs.List.{AllByRecursion};
+ghost use Rattle.std.specs.Option.{option_copied, option_and_then};
+ghost use Rattle.mj_cells.specs.Table.{table_of, dentry_of};
+ghost use Rattle.mj_recovery.specs.Tree.{is_among, subdir};
+ghost use Rattle.mj_tables.specs.Layered.{early_cells};
+ghost use Rattle.mj_index.specs.Places.{dentry_key};
+ghost use Rattle.mj_index.specs.Known.{known_at, is_dir_at};
+ghost use Rattle.mj_index.specs.Indexed.{place_key};
+ghost use Rattle.mj_index.specs.Said.{dir_named, left_dirs, led_dirs, written_dirs};
+ghost use Rattle.mj_index.specs.Following.{early_value};
+ghost use Rattle.mj_index.specs.Gentle.{HasKeptWay};
+ghost use Rattle.mj_index.specs.Turning.{has_key, all_pass, is_bare, leaves_well, LeadsWell, IsGentleTurn, AreKeysOf, HasPlaceKept};
+
+use crate::known::KnownInodes;
+use crate::said::dir_named;
+use mj_base::Ino;
+use mj_cells::{CellKey, CellValue, CellWrite};
+use mj_judge::{ROOT, dir_of, subdir_in};
+use mj_tables::Layers;
+use std::alloc::{AllocError, Global};
+use std::collections::BTreeSet;
+
+/// The directories that the written dentries of reachable directories named before, and those that they name now.
+#[derive(Drop)]
+pub struct Turn {
+    pub left: Vec<Ino>,
+    pub led: Vec<Ino>,
+}
+
+// The keys of writes, where none is written twice.
+fn written_keys(alloc: Global, ws: &[CellWrite]) -> Result<Option<BTreeSet<CellKey>>, AllocError>
+    ensures { IfOk result (λ o. IfSome o (λ keys. AreKeysOf keys ws.now)) }
+{
+    let mut keys = BTreeSet::new(alloc);
+    for i in (0..ws.len()).rev() {
+        let key = ws[i].key.copy(alloc)?;
+        if !keys.insert(key)? {
+            return Ok(None);
+        }
+    }
+    Ok(Some(keys))
+}
+
+fn has_key(keys: &BTreeSet<CellKey>, key: &CellKey) -> bool
+    ensures { result ≡ has_key keys.now key.now }
+{
+    keys.contains(key)
+}
+
+fn has(dirs: &BTreeSet<Ino>, dir: Ino) -> bool
+    ensures { result ≡ is_among dirs.now.keys dir }
+{
+    dirs.contains(&dir)
+}
+
+fn set_of(alloc: Global, inodes: &[Ino]) -> Result<BTreeSet<Ino>, AllocError>
+    ensures { IfOk result (λ set. (d : ℕ) → is_among set.keys d ≡ is_among inodes.now d) }
+{
+    let mut set = BTreeSet::new(alloc);
+    for ino in inodes {
+        set.insert(*ino)?;
+    }
+    Ok(set)
+}
+
+// The directory that the early cell of a key names.
+fn dir_named_before(known: &KnownInodes, layers: &Layers, key: &CellKey) -> Option<Ino>
+    ensures { result ≡ dir_named (is_dir_at known.now) (key.now, early_value layers.now key.now) }
+{
+    match layers.early(key) {
+        Some(value) => dir_named(known, key, value),
+        None => None,
+    }
+}
+
+fn left_dirs(
+    alloc: Global,
+    known: &KnownInodes,
+    layers: &Layers,
+    ws: &[CellWrite],
+) -> Result<Vec<Ino>, AllocError>
+    ensures { IfOk result (λ v. v.items ≡ left_dirs (is_dir_at known.now) (early_value layers.now) ws.now) }
+{
+    let mut found = Vec::new(alloc);
+    for w in ws {
+        if let Some(dir) = dir_named_before(known, layers, &w.key) {
+            found.push(dir)?;
+        }
+    }
+    Ok(found)
+}
+
+fn led_dirs(alloc: Global, known: &KnownInodes, ws: &[CellWrite]) -> Result<Vec<Ino>, AllocError>
+    ensures { IfOk result (λ v. v.items ≡ led_dirs (is_dir_at known.now) ws.now) }
+{
+    let mut found = Vec::new(alloc);
+    for w in ws {
+        if let Some(dir) = dir_named(known, &w.key, &w.value) {
+            found.push(dir)?;
+        }
+    }
+    Ok(found)
+}
+
+fn written_dirs(alloc: Global, ws: &[CellWrite]) -> Result<Vec<Ino>, AllocError>
+    ensures { IfOk result (λ v. v.items ≡ written_dirs ws.now) }
+{
+    let mut found = Vec::new(alloc);
+    for w in ws {
+        if let Some(dir) = dir_of(&w.key) {
+            found.push(dir)?;
+        }
+    }
+    Ok(found)
+}
+
+fn is_bare(known: &KnownInodes, written: &BTreeSet<Ino>, dir: Ino) -> bool
+    ensures { result ≡ is_bare known.now (is_among written.now.keys) dir }
+{
+    known.dentries_in(dir) == 0 && !has(written, dir)
+}
+
+fn leaves_well(
+    known: &KnownInodes,
+    written: &BTreeSet<Ino>,
+    led: &BTreeSet<Ino>,
+    left: &[Ino],
+) -> bool
+    ensures { result ≡ all_pass (leaves_well known.now (is_among written.now.keys) (is_among led.now.keys)) left.now }
+{
+    for dir in left {
+        if !has(led, *dir) && !is_bare(known, written, *dir) {
+            return false;
+        }
+    }
+    true
+}
+
+fn full_key(known: &KnownInodes, ino: Ino) -> Option<&CellKey>
+    ensures { option_copied result ≡ place_key (known_at known.now ino).full }
+{
+    match known.get(ino) {
+        Some(known) => {
+            match &known.full {
+                Some(place) => Some(&place.key),
+                None => None,
+            }
+        }
+        None => None,
+    }
+}
+
+// Whether a full dentry names the directory.
+fn names(value: &CellValue, dir: Ino) -> bool
+    ensures { result ≡ true → option_and_then subdir (dentry_of value.now) ≡ Some dir }
+{
+    match subdir_in(value) {
+        Some(below) => below == dir,
+        None => false,
+    }
+}
+
+// The directory that has the full dentry of this one, where that is early and not written.
+fn above(known: &KnownInodes, layers: &Layers, keys: &BTreeSet<CellKey>, dir: Ino) -> Option<Ino>
+    ensures { IfSome result (HasPlaceKept (table_of (early_cells layers.now)) (λ q. has_key keys.now (dentry_key q)) dir) }
+{
+    let key = full_key(known, dir)?;
+    if has_key(keys, key) {
+        return None;
+    }
+    let value = layers.early(key)?;
+    let parent = dir_of(key)?;
+    if names(value, dir) {
+        Some(parent)
+    } else {
+        None
+    }
+}
+
+// Whether full dentries that are not written lead from the root to the directory. No way is longer than inodes are known.
+fn keeps_way(known: &KnownInodes, layers: &Layers, keys: &BTreeSet<CellKey>, dir: Ino) -> bool
+    ensures { result ≡ true → HasKeptWay (table_of (early_cells layers.now)) (λ q. has_key keys.now (dentry_key q)) dir }
+{
+    let mut at = dir;
+    'up: for _ in 0..known.len() {
+        if at == ROOT {
+            return true;
+        }
+        match above(known, layers, keys, at) {
+            Some(parent) => at = parent,
+            None => return false,
+        }
+    }
+    false
+}
+
+fn lead_well(
+    known: &KnownInodes,
+    layers: &Layers,
+    keys: &BTreeSet<CellKey>,
+    written: &BTreeSet<Ino>,
+    left: &BTreeSet<Ino>,
+    w: &CellWrite,
+) -> bool
+    ensures { result ≡ true → LeadsWell known.now (table_of (early_cells layers.now)) (λ q. has_key keys.now (dentry_key q)) (is_among written.now.keys) (is_among left.now.keys) w.now }
+{
+    match (dir_of(&w.key), dir_named(known, &w.key, &w.value)) {
+        (Some(dir), Some(below)) => {
+            if has(left, below) {
+                keeps_way(known, layers, keys, dir)
+            } else {
+                is_bare(known, written, below)
+            }
+        }
+        _ => true,
+    }
+}
+
+fn leads_well(
+    known: &KnownInodes,
+    layers: &Layers,
+    keys: &BTreeSet<CellKey>,
+    written: &BTreeSet<Ino>,
+    left: &BTreeSet<Ino>,
+    ws: &[CellWrite],
+) -> bool
+    ensures { result ≡ true → AllByRecursion (LeadsWell known.now (table_of (early_cells layers.now)) (λ q. has_key keys.now (dentry_key q)) (is_among written.now.keys) (is_among left.now.keys)) ws.now }
+{
+    for w in ws {
+        if !lead_well(known, layers, keys, written, left, w) {
+            return false;
+        }
+    }
+    true
+}
+
+// Whether the directories that come and go, or move, are those of a gentle group.
+fn turns_well(
+    alloc: Global,
+    known: &KnownInodes,
+    layers: &Layers,
+    keys: &BTreeSet<CellKey>,
+    ws: &[CellWrite],
+    turn: &Turn,
+) -> Result<bool, AllocError>
+    requires keys { AreKeysOf keys.now ws.now }
+    requires left { turn.now.left.items ≡ left_dirs (is_dir_at known.now) (early_value layers.now) ws.now }
+    requires led { turn.now.led.items ≡ led_dirs (is_dir_at known.now) ws.now }
+    ensures { IfOk result (λ b. b ≡ true → IsGentleTurn known.now layers.now ws.now turn.now.left.items turn.now.led.items) }
+{
+    let dirs = written_dirs(alloc, ws)?;
+    let written = set_of(alloc, &dirs)?;
+    let left = set_of(alloc, &turn.left)?;
+    let led = set_of(alloc, &turn.led)?;
+    if !leaves_well(known, &written, &led, &turn.left) {
+        return Ok(false);
+    }
+    Ok(leads_well(known, layers, keys, &written, &left, ws))
+}
+
+/// What a group turns, where it is gentle. Time grows with the writes, and with how deep the directories lie that move.
+pub fn gentle_turn(
+    alloc: Global,
+    known: &KnownInodes,
+    layers: &Layers,
+    ws: &[CellWrite],
+) -> Result<Option<Turn>, AllocError>
+    ensures { IfOk result (λ o. IfSome o (λ turn. IsGentleTurn known.now layers.now ws.now turn.left.items turn.led.items)) }
+{
+    let Some(keys) = written_keys(alloc, ws)? else {
+        return Ok(None);
+    };
+    let turn = Turn {
+        left: left_dirs(alloc, known, layers, ws)?,
+        led: led_dirs(alloc, known, ws)?,
+    };
+    if turns_well(alloc, known, layers, &keys, ws, &turn)? {
+        Ok(Some(turn))
+    } else {
+        Ok(None)
+    }
+}
