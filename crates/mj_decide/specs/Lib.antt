@@ -1,0 +1,2 @@
+pub mod HasTree
+pub mod Reads

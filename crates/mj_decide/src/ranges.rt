@@ -1,0 +1,237 @@
+//! What is read of a cache by going over keys.
+
+ghost use Rattle.std.specs.Prelude.{◌≡◌, ◌∷◌, ◌++◌, [], ℕ, Some, true, cond, filter, is_some, nat_lt, nat_le, option_map, IfOk, IfSome, OnOk};
+ghost use Rattle.std.specs.Option.{option_copied};
+ghost use Rattle.mj_maps.specs.Map.{get, count};
+ghost use Rattle.mj_tree.specs.State.{is_dir, opens_of};
+ghost use Rattle.mj_tree.specs.Row.{names_in};
+ghost use Rattle.mj_tree.specs.Answer.{kept_reply};
+ghost use Rattle.mj_cells.specs.declared.cell.CellKey.TheVariants.{Dentry};
+ghost use Rattle.mj_cache.specs.Cached.{early_tree};
+ghost use Rattle.mj_delta.specs.Events.{tids};
+ghost use Rattle.mj_delta.specs.TreeOf.{oldest_of};
+ghost use Rattle.mj_decide.specs.HasTree.{HasTree};
+ghost use Rattle.mj_decide.specs.Reads.{is_open_by, kept_of, name_below, name_in, name_of, next_name, next_tid, tid_in};
+
+use crate::reads::{kept_reply, link_at, session_oldest};
+use mj_base::{ClientId, Ino, Items, Name, Tid};
+use mj_cache::Cache;
+use mj_cells::CellKey;
+use mj_tree::NameList;
+use std::alloc::{AllocError, Global};
+
+// The number of a kept reply, where it is the client's.
+fn tid_in(client: ClientId, key: &CellKey) -> Option<Tid>
+    ensures { result ≡ tid_in client key.now }
+{
+    match key {
+        CellKey::Done(of, tid) => { if *of == client { Some(*tid) } else { None } }
+        _ => None,
+    }
+}
+
+/// The least number above `after` among a client's kept replies.
+fn next_tid(cache: &Cache, client: ClientId, after: Tid) -> Option<Tid>
+    requires tree { HasTree cache.now }
+    ensures { result ≡ next_tid (early_tree cache.now) client after }
+{
+    cache.all_fit();
+    let key = CellKey::Done(client, after);
+    match cache.next_early(Some(&key)) {
+        Some(cell) => tid_in(client, cell.key),
+        None => None,
+    }
+}
+
+// The oldest number of a session, where its reply is kept.
+fn oldest_tids(
+    alloc: Global,
+    cache: &Cache,
+    client: ClientId,
+    oldest: Tid,
+) -> Result<Vec<Tid>, AllocError>
+    requires tree { HasTree cache.now }
+    requires oldest { oldest_of (get (early_tree cache.now).sessions client) ≡ Some oldest }
+    ensures { IfOk result (λ found. found.items ++ filter (nat_lt oldest) (tids (kept_of (early_tree cache.now) client)) ≡ tids (kept_of (early_tree cache.now) client)) }
+{
+    let mut found = Vec::new(alloc);
+    if kept_reply(cache, client, oldest).is_some() {
+        found.push(oldest)?;
+        Ok(found)
+    } else {
+        Ok(found)
+    }
+}
+
+// The numbers of the kept replies of a client whose session has this oldest number.
+fn session_tids(
+    alloc: Global,
+    cache: &Cache,
+    client: ClientId,
+    oldest: Tid,
+) -> Result<Vec<Tid>, AllocError>
+    requires tree { HasTree cache.now }
+    requires oldest { oldest_of (get (early_tree cache.now).sessions client) ≡ Some oldest }
+    ensures { IfOk result (λ found. found.items ≡ tids (kept_of (early_tree cache.now) client)) }
+{
+    let mut found = oldest_tids(alloc, cache, client, oldest)?;
+    let mut after = oldest;
+    while let Some(tid) = next_tid(cache, client, after) {
+        found.push(tid)?;
+        after = tid;
+    }
+    Ok(found)
+}
+
+/// The numbers of a client's kept replies, ascending. There are at most 64.
+pub fn kept_tids(alloc: Global, cache: &Cache, client: ClientId) -> Result<Vec<Tid>, AllocError>
+    requires tree { HasTree cache.now }
+    ensures { IfOk result (λ found. found.items ≡ tids (kept_of (early_tree cache.now) client)) }
+{
+    match session_oldest(cache, client) {
+        Some(oldest) => session_tids(alloc, cache, client, oldest),
+        None => Ok(Vec::new(alloc)),
+    }
+}
+
+// 1 where the reply to this number is kept, and else 0.
+fn kept_at(cache: &Cache, client: ClientId, tid: Tid) -> usize
+    requires tree { HasTree cache.now }
+    ensures { result ≡ cond (is_some (kept_reply (early_tree cache.now) client tid)) 1 0 }
+{
+    if kept_reply(cache, client, tid).is_some() {
+        1
+    } else {
+        0
+    }
+}
+
+/// How many replies from a number on are kept for a client.
+pub fn kept_from(cache: &Cache, client: ClientId, oldest: Tid) -> usize
+    requires tree { HasTree cache.now }
+    ensures { result ≡ count (λ (e : ℕ × ℕ). nat_le oldest e.0) (kept_of (early_tree cache.now) client) }
+{
+    let mut kept = kept_at(cache, client, oldest);
+    let mut after = oldest;
+    while let Some(tid) = next_tid(cache, client, after) {
+        kept += 1;
+        after = tid;
+    }
+    kept
+}
+
+fn is_open_by(client: ClientId, key: &CellKey) -> bool
+    ensures { result ≡ is_open_by client key.now }
+{
+    match key {
+        CellKey::OpenOf(of, _) => *of == client,
+        _ => false,
+    }
+}
+
+/// Whether a client has a file open. No open is of inode 0.
+pub fn has_opens(cache: &Cache, client: ClientId) -> bool
+    requires tree { HasTree cache.now }
+    ensures { result ≡ nat_lt 0 (opens_of (early_tree cache.now) client) }
+{
+    cache.all_fit();
+    let below = CellKey::OpenOf(client, Ino(0));
+    match cache.next_early(Some(&below)) {
+        Some(cell) => is_open_by(client, cell.key),
+        None => false,
+    }
+}
+
+// The least name of all.
+fn least_name(alloc: Global) -> Result<Name, AllocError>
+    ensures { IfOk result (λ name. name ≡ 1 ∷ []) }
+{
+    match Name::read(alloc, &[1]) {
+        Ok(name) => Ok(name),
+        Err(_) => Err(AllocError),
+    }
+}
+
+// The name of a dentry, where it is in the directory.
+fn name_in(dir: Ino, key: &CellKey) -> Option<&Name>
+    ensures name { option_copied result ≡ name_in dir key.now }
+    ensures key { IfSome result (λ name. key.now ≡ Dentry dir name.now) }
+{
+    match key {
+        CellKey::Dentry(at, name) => { if *at == dir { Some(name) } else { None } }
+        _ => None,
+    }
+}
+
+// The key of the least name above, among those of a directory, and that name.
+fn next_name<'a>(cache: &'a Cache, dir: Ino, after: &CellKey) -> Option<(&'a CellKey, &'a Name)>
+    requires tree { HasTree cache.now }
+    requires dir { is_dir (early_tree cache.now) dir ≡ true }
+    requires here { after.now ≡ Dentry dir (name_of after.now) }
+    ensures name { option_map (λ found. found.1.now) result ≡ next_name (early_tree cache.now) dir (name_of after.now) }
+    ensures key { IfSome result (λ found. found.0.now ≡ Dentry dir found.1.now) }
+{
+    cache.all_fit();
+    match cache.next_early(Some(after)) {
+        Some(cell) => match name_in(dir, cell.key) {
+            Some(name) => Some((cell.key, name)),
+            None => None,
+        },
+        None => None,
+    }
+}
+
+// The least name of all, where the directory has it.
+fn least_names(
+    alloc: Global,
+    cache: &Cache,
+    dir: Ino,
+    least: &Name,
+) -> Result<Vec<Name>, AllocError>
+    requires tree { HasTree cache.now }
+    requires dir { is_dir (early_tree cache.now) dir ≡ true }
+    requires least { least.now ≡ 1 ∷ [] }
+    ensures { IfOk result (λ names. names.items ++ filter (name_below least.now) (names_in (early_tree cache.now) dir) ≡ names_in (early_tree cache.now) dir) }
+{
+    let mut names = Vec::new(alloc);
+    if link_at(alloc, cache, dir, least)?.is_some() {
+        names.push(least.copy(alloc)?)?;
+        Ok(names)
+    } else {
+        Ok(names)
+    }
+}
+
+// Pushes the names of a directory that are above that of the key.
+fn push_names<'a>(
+    alloc: Global,
+    cache: &'a Cache,
+    dir: Ino,
+    first: &'a CellKey,
+    names: &mut Vec<Name>,
+) -> Result<(), AllocError>
+    requires tree { HasTree cache.now }
+    requires dir { is_dir (early_tree cache.now) dir ≡ true }
+    requires here { first.now ≡ Dentry dir (name_of first.now) }
+    ensures { OnOk result (names.new.items ≡ names.old.items ++ filter (name_below (name_of first.now)) (names_in (early_tree cache.now) dir)) }
+{
+    let mut after = first;
+    while let Some((key, name)) = next_name(cache, dir, after) {
+        names.push(name.copy(alloc)?)?;
+        after = key;
+    }
+    Ok(())
+}
+
+/// The names of a directory, ascending by bytes.
+pub fn names_in(alloc: Global, cache: &Cache, dir: Ino) -> Result<NameList, AllocError>
+    requires tree { HasTree cache.now }
+    requires dir { is_dir (early_tree cache.now) dir ≡ true }
+    ensures { IfOk result (λ names. names ≡ names_in (early_tree cache.now) dir) }
+{
+    let least = least_name(alloc)?;
+    let mut names = least_names(alloc, cache, dir, &least)?;
+    let first = CellKey::Dentry(dir, least);
+    push_names(alloc, cache, dir, &first, &mut names)?;
+    Ok(Items::from_vec(names))
+}
