@@ -1,0 +1,10 @@
+pub mod Results
+pub mod FullPlaces
+pub mod Left
+pub mod Allowed
+pub mod Tids
+pub mod Heads
+pub mod Bits
+pub mod SentRequests
+pub mod Projecting
+pub mod NewCells

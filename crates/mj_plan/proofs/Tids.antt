@@ -1,0 +1,19 @@
+-- The numbers of the kept replies that pass a test.
+use Rattle.std.proofs.Common.{◌≡◌, ℕ, Bool, true, false, cond, List, [], ◌∷◌, map, filter, Some, None, refl, ap, ◌∙◌}
+use Rattle.mj_maps.specs.Map.{Map, entries, retain, collect, picked, passed, with_some}
+use Rattle.mj_maps.specs.Orders.{nat_cmp}
+use Rattle.mj_delta.specs.Events.{tids}
+
+entries-retain : (p : ℕ → ℕ → Bool) (m : Map nat_cmp ℕ) → entries (retain p m) ≡ picked (passed p) (entries m)
+unfolding entries collect
+entries-retain p m = refl
+
+picked_tids : (p : ℕ → Bool) (es : List (ℕ × ℕ)) → map (λ (e : ℕ × ℕ). e.0) (picked (passed (λ tid _. p tid)) es) ≡ filter p (map (λ (e : ℕ × ℕ). e.0) es)
+picked_tids p [] = refl
+picked_tids p (e ∷ es) = elim (p e.0) as (λ b. map (λ (e : ℕ × ℕ). e.0) (with_some e.0 (cond b (Some e.1) None) (picked (passed (λ tid _. p tid)) es)) ≡ cond b (e.0 ∷ filter p (map (λ (e : ℕ × ℕ). e.0) es)) (filter p (map (λ (e : ℕ × ℕ). e.0) es))) [
+  | true ↦ ap (λ xs. e.0 ∷ xs) (picked_tids p es)
+  | false ↦ picked_tids p es
+]
+
+pub tids_pass : (p : ℕ → Bool) (m : Map nat_cmp ℕ) → tids (retain (λ tid _. p tid) m) ≡ filter p (tids m)
+tids_pass p m = ap (map (λ (e : ℕ × ℕ). e.0)) (entries-retain (λ tid _. p tid) m) ∙ picked_tids p (entries m)

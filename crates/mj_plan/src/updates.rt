@@ -1,0 +1,147 @@
+//! The event of an accepted request, but for what it says of its change.
+
+ghost use Rattle.std.specs.Prelude.{◌≡◌, nat_lt, filter, max, IfOk, Some, None, if◌then◌else◌};
+ghost use Rattle.mj_tree.specs.State.{Session};
+ghost use Rattle.mj_cache.specs.Cached.{early_tree};
+ghost use Rattle.mj_event.specs.declared.Event.TheVariants as event;
+ghost use Rattle.mj_machine.specs.Delta.{op_number};
+ghost use Rattle.mj_delta.specs.Events.{own_session, raised_oldest, dropped_replies, update_of};
+ghost use Rattle.mj_decide.specs.HasTree.{HasTree};
+
+use mj_base::{Ino, Items, Tid};
+use mj_cache::Cache;
+use mj_decide::{kept_tids, session_oldest};
+use mj_event::{Event, UpdateEvent};
+use mj_meta::{DirLump, MetaBlob};
+use mj_tree::{ClientRequest, Op};
+use std::alloc::{AllocError, Global};
+
+/// What an event says of a change: the next inode where that rises, the file that is opened or released, and the lumps.
+#[derive(Drop)]
+pub struct Changed {
+    pub next: Option<Ino>,
+    pub opened: Option<Ino>,
+    pub released: Option<Ino>,
+    pub lumps: Vec<DirLump>,
+}
+
+impl Changed {
+    /// A change of directories alone.
+    pub fn of_lumps(lumps: Vec<DirLump>) -> Changed
+        ensures { result ≡ record { next = None; opened = None; released = None; lumps = lumps } }
+    {
+        Changed {
+            next: None,
+            opened: None,
+            released: None,
+            lumps,
+        }
+    }
+}
+
+/// The number of an operation in an event.
+fn op_number(op: &Op) -> u8
+    ensures { result ≡ op_number op.now }
+{
+    match op {
+        Op::Mkdir { .. } => 3,
+        Op::Create { .. } => 4,
+        Op::Symlink { .. } => 5,
+        Op::Link { .. } => 6,
+        Op::Unlink { .. } => 7,
+        Op::Rmdir { .. } => 8,
+        Op::Rename { .. } => 9,
+        Op::SetAttr { .. } => 10,
+        Op::OpenFile { .. } => 11,
+        Op::Release { .. } => 12,
+        _ => 0,
+    }
+}
+
+// The oldest number of the client's session; 0 where it has none.
+fn own_oldest(cache: &Cache, r: &ClientRequest) -> Tid
+    requires tree { HasTree cache.now }
+    ensures { result ≡ (own_session (early_tree cache.now) r.entry.now).oldest }
+{
+    session_oldest(cache, r.client).unwrap_or(Tid(0))
+}
+
+// The oldest number that the request raises the session's to, if it does.
+fn raised_oldest(cache: &Cache, r: &ClientRequest) -> Option<Tid>
+    requires tree { HasTree cache.now }
+    ensures { result ≡ raised_oldest r.entry.now (own_session (early_tree cache.now) r.entry.now) }
+{
+    if own_oldest(cache, r) < r.oldest {
+        Some(r.oldest)
+    } else {
+        None
+    }
+}
+
+// Those below a number.
+fn tids_below(alloc: Global, tids: &[Tid], oldest: Tid) -> Result<Vec<Tid>, AllocError>
+    ensures { IfOk result (λ below. below.items ≡ filter (λ tid. nat_lt tid oldest) tids.now) }
+{
+    let mut below = Vec::new(alloc);
+    for tid in tids {
+        if *tid < oldest {
+            below.push(*tid)?;
+        }
+    }
+    Ok(below)
+}
+
+// The greater number.
+fn later(a: Tid, b: Tid) -> Tid
+    ensures { result ≡ max a b }
+{
+    if a < b { b } else { a }
+}
+
+// The replies that are no more kept.
+fn dropped_replies(
+    alloc: Global,
+    cache: &Cache,
+    r: &ClientRequest,
+) -> Result<Items<Tid>, AllocError>
+    requires tree { HasTree cache.now }
+    ensures { IfOk result (λ dropped. dropped ≡ dropped_replies r.entry.now (own_session (early_tree cache.now) r.entry.now)) }
+{
+    let oldest = later(own_oldest(cache, r), r.oldest);
+    let kept = kept_tids(alloc, cache, r.client)?;
+    Ok(Items::from_vec(tids_below(alloc, &kept, oldest)?))
+}
+
+/// The event of a request that is accepted on an inode.
+pub fn update_of(
+    alloc: Global,
+    cache: &Cache,
+    r: &ClientRequest,
+    ino: Ino,
+    changed: Changed,
+) -> Result<Event, AllocError>
+    requires tree { HasTree cache.now }
+    ensures { IfOk result (λ e. e ≡ event.Update (update_of (early_tree cache.now) r.entry.now ino changed.next changed.opened changed.released changed.lumps.items)) }
+{
+    let dropped = dropped_replies(alloc, cache, r)?;
+    let Changed {
+        next,
+        opened,
+        released,
+        lumps,
+    } = changed;
+    Ok(Event::Update(UpdateEvent {
+        op: op_number(&r.op),
+        client: r.client,
+        tid: r.tid,
+        ino,
+        oldest: raised_oldest(cache, r),
+        dropped,
+        next,
+        opened,
+        released,
+        blob: MetaBlob {
+            lumps: Items::from_vec(lumps),
+        },
+    }))
+}
