@@ -1,10 +1,10 @@
 -- Slots that hold what groups write.
 use Rattle.std.proofs.Common.{◌≡◌, ℕ, ◌<◌, ◌≤◌, arith, Bool, true, false, cond, ◌||◌, List, [], ◌∷◌, ◌++◌, Option, Some, None, refl, sym, ap, subst, ◌∙◌, append_assoc}
-use Rattle.std.specs.Prelude.{option_map, is_some, IsSome, nat_le, nat_lt, filter}
+use Rattle.std.specs.Prelude.{is_some, IsSome, nat_le, nat_lt}
 use Rattle.std.specs.List.{AllByRecursion}
 use Rattle.std.specs.Option.{option_or, option_and_then}
 use Rattle.std.proofs.lemmas.Bool.{true≢false, false≢true}
-use Rattle.mj_maps.specs.Map.{Map, Set, get, insert, collect}
+use Rattle.mj_maps.specs.Map.{Map, get}
 use Rattle.mj_maps.proofs.MapLaws.{get-collect, same_map, some_same, none_some, eq_same}
 use Rattle.mj_cells.specs.declared.cell.CellKey.{CellKey}
 use Rattle.mj_cells.specs.declared.cell.CellValue.{CellValue}
@@ -18,7 +18,7 @@ use Rattle.mj_tables.specs.declared.slot.Slot.{Slot}
 use Rattle.mj_tables.specs.Layered.{all_writes, writes_key, early_of, EndBelow, EndsRise, HasRoom, NoneEnded, ended, unended}
 use Rattle.mj_tables.specs.Slots.{Slots, safe_cells, early_slots, early_in, value_ahead, rooms, ahead_at, ahead_after, ahead_by, ahead_of, last_write, altered, projecting, settling, with_room, all_room, all_projected, all_settled, SameAhead, AreLaid}
 use Rattle.mj_tables.proofs.SlotMaps.{safe-with_room, ahead-with_room, some-with_room, some_stays-with_room, rooms-altered, get-rooms, safe-projecting, ahead-projecting, safe-settling, ahead-settling}
-use Rattle.mj_tables.proofs.Writes.{or_none, or_assoc, get-put_all, put_all-append, last_write-append, some-last_write, value-ahead_of, ahead_of-append, some-ahead_of}
+use Rattle.mj_tables.proofs.Writes.{get-put_all, put_all-append, some-last_write, value-ahead_of, ahead_of-append, some-ahead_of}
 
 pub some_true : {A : Type 0} (o : Option A) → IsSome o → is_some o ≡ true
 some_true None h = absurd (false≢true h)
@@ -289,7 +289,7 @@ settling_end upto m gs n hs was none =
 
 -- ---- the early cells stay
 
-all_writes-append : (gs hs : List Group) → all_writes (gs ++ hs) ≡ all_writes gs ++ all_writes hs
+pub all_writes-append : (gs hs : List Group) → all_writes (gs ++ hs) ≡ all_writes gs ++ all_writes hs
 all_writes-append [] hs = refl
 all_writes-append (g ∷ gs) hs = ap (λ (ws : List CellWrite). g.writes ++ ws) (all_writes-append gs hs) ∙ sym (append_assoc g.writes (all_writes gs) (all_writes hs))
 

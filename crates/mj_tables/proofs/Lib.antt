@@ -3,3 +3,7 @@ pub mod Writes
 pub mod Laid
 pub mod SlotTrees
 pub mod Moved
+pub mod KeySets
+pub mod NextThere
+pub mod Found
+pub mod Sound

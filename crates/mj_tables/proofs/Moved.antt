@@ -1,14 +1,14 @@
 -- Cells that move one by one are all there in the end.
-use Rattle.std.proofs.Common.{◌≡◌, ℕ, ◌+◌, ◌<◌, arith, [], Bool, true, false, cond, Option, Some, None, refl, sym, ap, subst, ◌∙◌, inl, inr}
+use Rattle.std.proofs.Common.{◌≡◌, ◌<◌, arith, [], Bool, true, false, Option, Some, None, refl, sym, ap, subst, ◌∙◌, inl, inr}
 use Rattle.std.specs.Prelude.{option_map}
 use Rattle.std.specs.Option.{option_or, option_and_then}
 use Rattle.std.proofs.lemmas.Bool.{true≢false}
-use Rattle.mj_maps.specs.Map.{Map, get, insert, remove, len, empty, collect}
-use Rattle.mj_maps.proofs.MapLaws.{cases_key, eq_same, insert_same, insert_other, remove_same, remove_other, get-collect, same_map, get_empty, len-remove, none_some}
+use Rattle.mj_maps.specs.Map.{Map, get, insert, remove, len, empty}
+use Rattle.mj_maps.proofs.MapLaws.{cases_key, insert_same, insert_other, remove_same, remove_other, get-collect, same_map, get_empty, len-remove, none_some}
 use Rattle.mj_cells.specs.declared.cell.CellKey.{CellKey}
 use Rattle.mj_cells.specs.declared.cell.CellValue.{CellValue}
-use Rattle.mj_cells.specs.Cell.{key_cmp, same_key}
-use Rattle.mj_cells.specs.Next.{next_cell, IsLeastAbove, is_above}
+use Rattle.mj_cells.specs.Cell.{key_cmp}
+use Rattle.mj_cells.specs.Next.{next_cell, IsLeastAbove}
 use Rattle.mj_cells.proofs.Keys.{exact_key}
 use Rattle.mj_cells.proofs.Least.{next_is_least}
 use Rattle.mj_tables.specs.declared.slot.Slot.{Slot}

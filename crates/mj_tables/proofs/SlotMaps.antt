@@ -1,15 +1,14 @@
 -- What one change of a slot does to the maps that the slots stand for.
-use Rattle.std.proofs.Common.{◌≡◌, ℕ, Bool, true, false, cond, Option, Some, None, refl, sym, ap, subst, ◌∙◌, inl, inr}
-use Rattle.std.specs.Prelude.{IsSome, option_map, is_some}
+use Rattle.std.proofs.Common.{◌≡◌, ℕ, Bool, true, false, cond, Option, Some, None, refl, sym, ap, ◌∙◌, inl, inr}
+use Rattle.std.specs.Prelude.{option_map, is_some}
 use Rattle.std.specs.Option.{option_and_then, option_or}
-use Rattle.std.proofs.lemmas.Bool.{true≢false, false≢true}
-use Rattle.mj_maps.specs.Map.{Map, Set, get, insert, collect}
-use Rattle.mj_maps.proofs.MapLaws.{cases_key, eq_same, get-insert, get-collect, insert_same, insert_other, same_map}
+use Rattle.std.proofs.lemmas.Bool.{false≢true}
+use Rattle.mj_maps.specs.Map.{get, insert, collect}
+use Rattle.mj_maps.proofs.MapLaws.{cases_key, eq_same, get-insert, get-collect, same_map}
 use Rattle.mj_cells.specs.declared.cell.CellKey.{CellKey}
 use Rattle.mj_cells.specs.declared.cell.CellValue.{CellValue}
-use Rattle.mj_cells.specs.Cell.{key_cmp, same_key}
+use Rattle.mj_cells.specs.Cell.{same_key}
 use Rattle.mj_cells.proofs.Keys.{exact_key}
-use Rattle.mj_tables.specs.declared.slot.Ahead.{Ahead}
 use Rattle.mj_tables.specs.declared.slot.Slot.{Slot}
 use Rattle.mj_tables.specs.Slots.{Slots, safe_cells, rooms, ahead_at, empty_slot, with_room, altered, altered_at, projecting, settling, ahead_after, SameAhead}
 

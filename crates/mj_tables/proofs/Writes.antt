@@ -1,5 +1,5 @@
 -- What the writes of groups leave at a key.
-use Rattle.std.proofs.Common.{◌≡◌, ℕ, Bool, true, false, cond, ◌||◌, List, [], ◌∷◌, ◌++◌, Option, Some, None, refl, sym, ap, ◌∙◌, inl, inr}
+use Rattle.std.proofs.Common.{◌≡◌, ℕ, ◌+◌, ◌<◌, suc, length, drop, get_or, add-one, drop-cons, Bool, true, false, cond, ◌||◌, List, [], ◌∷◌, ◌++◌, Option, Some, None, refl, sym, ap, ◌∙◌}
 use Rattle.std.specs.Prelude.{option_map, is_some}
 use Rattle.std.specs.Option.{option_or}
 use Rattle.mj_maps.specs.Map.{Map, get, insert}
@@ -14,6 +14,10 @@ use Rattle.mj_tables.specs.declared.group.Group.{Group}
 use Rattle.mj_tables.specs.declared.slot.Ahead.{Ahead}
 use Rattle.mj_tables.specs.Layered.{all_writes, writes_key}
 use Rattle.mj_tables.specs.Slots.{value_ahead, last_write, ahead_by, ahead_of}
+
+-- the write at a place, and those after it
+pub next_write : (ws : List CellWrite) (i : ℕ) (w : CellWrite) → i < length ws → w ≡ get_or ws i w → drop i ws ≡ w ∷ drop (i + 1) ws
+next_write ws i w h e = rw add-one (drop-cons ws i w h ∙ ap (λ (x : CellWrite). x ∷ drop (suc i) ws) (sym e))
 
 pub or_none : {A : Type 0} (o : Option A) → option_or o None ≡ o
 or_none None = refl
@@ -68,7 +72,7 @@ pub ahead_of-append : (k : CellKey) (gs : List Group) (g : Group) → ahead_of k
 ahead_of-append k [] g = sym (or_none (ahead_by g.ends (last_write k g.writes)))
 ahead_of-append k (h ∷ gs) g = ap (λ o. option_or o (ahead_by h.ends (last_write k h.writes))) (ahead_of-append k gs g) ∙ or_assoc (ahead_by g.ends (last_write k g.writes)) (ahead_of k gs) _
 
-some_map : {A B : Type 0} (f : A → B) (o : Option A) → is_some (option_map f o) ≡ is_some o
+pub some_map : {A B : Type 0} (f : A → B) (o : Option A) → is_some (option_map f o) ≡ is_some o
 some_map f None = refl
 some_map f (Some x) = refl
 

@@ -1,3 +1,4 @@
 pub mod Layered
 pub mod Slots
+pub mod Listed
 pub mod Inside

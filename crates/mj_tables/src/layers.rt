@@ -9,13 +9,14 @@ ghost use Rattle.mj_cells.specs.Table.{put_all};
 ghost use Rattle.mj_tables.specs.Layered.{all_writes, writes_key, early_cells, next_there, EndBelow, HasRoom, ended, unended};
 
 use crate::group::Group;
+use crate::listing::{add_all, keys_there, there_at};
 use crate::moving::slots_from;
-use crate::settling::{make_all_room, project_all, settle_ended};
+use crate::settling::{make_all_room, project_group, settle_ended};
 use crate::slot::Slot;
 use mj_base::Items;
 use mj_cells::{CellKey, CellTable, CellValue, CellView, CellWrite};
 use std::alloc::{AllocError, Global};
-use std::collections::{BTreeMap, VecDeque};
+use std::collections::{BTreeMap, BTreeSet, VecDeque};
 use std::marker::Model;
 use std::ops::Bound;
 
@@ -23,6 +24,9 @@ use std::ops::Bound;
 #[derive(Drop)]
 pub struct Layers {
     slots: BTreeMap<CellKey, Slot>,
+    // The keys whose early values are there, so that `next_there` does not step over what was removed.
+    // It steps only over room that a `reserve` made and no `project` took.
+    there: BTreeSet<CellKey>,
     groups: VecDeque<Group>,
 }
 
@@ -47,8 +51,10 @@ impl Layers {
         ensures groups { IfOk result (λ l. l.groups ≡ []) }
     {
         let slots = slots_from(alloc, table)?;
+        let there = keys_there(alloc, &slots)?;
         Ok(Layers {
             slots,
+            there,
             groups: VecDeque::new(alloc),
         })
     }
@@ -87,8 +93,8 @@ impl Layers {
     pub fn next_there(&self, after: Option<&CellKey>) -> Option<CellView<'_>>
         ensures { option_map cell_of result ≡ next_there (early_cells self.now) (option_copied after.entry) }
     {
-        for (key, slot) in self.slots.range((start_above(after), Bound::Unbounded)) {
-            if let Some(value) = slot.there() {
+        for key in self.there.range((start_above(after), Bound::Unbounded)) {
+            if let Some(value) = there_at(&self.slots, key) {
                 return Some(CellView { key, value });
             }
         }
@@ -119,6 +125,7 @@ impl Layers {
         let copies = copy_writes(alloc, ws)?;
         self.groups.reserve(1)?;
         make_all_room(alloc, &mut self.slots, ws)?;
+        add_all(alloc, &mut self.there, ws)?;
         Ok(copies)
     }
 
@@ -131,7 +138,7 @@ impl Layers {
         ensures safe { self.new.safe ≡ self.old.safe }
         ensures groups { self.new.groups ≡ self.old.groups ++ record { ends = ends; writes = ws.items } ∷ [] }
     {
-        project_all(&mut self.slots, copies, ends);
+        project_group(&mut self.slots, &mut self.there, &ws, copies, ends);
         self.groups.push_back_reserved(Group {
             ends,
             writes: Items::from_vec(ws),

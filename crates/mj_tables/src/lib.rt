@@ -3,6 +3,7 @@
 
 mod group;
 mod layers;
+mod listing;
 mod moving;
 mod settling;
 mod slot;

@@ -4,12 +4,14 @@ ghost use Rattle.std.specs.Prelude.{◌≡◌, ◌≤◌, ◌∷◌, MatchOption
 ghost use Rattle.mj_cells.specs.Table.{put_all};
 ghost use Rattle.mj_tables.specs.Layered.{all_writes, ended, unended, NoneEnded};
 ghost use Rattle.mj_tables.specs.Slots.{slots_of, safe_cells, rooms, all_room, all_projected, all_settled, AreLaid, SameAhead};
+ghost use Rattle.mj_tables.specs.Listed.{KeepsThere};
 
 use crate::group::Group;
+use crate::listing::drop_absent;
 use crate::slot::{Slot, make_room, project, settle};
 use mj_cells::{CellKey, CellWrite};
 use std::alloc::{AllocError, Global};
-use std::collections::{BTreeMap, VecDeque};
+use std::collections::{BTreeMap, BTreeSet, VecDeque};
 
 /// Makes room for the keys of these writes.
 pub fn make_all_room(
@@ -28,14 +30,30 @@ pub fn make_all_room(
     Ok(())
 }
 
-/// Puts the values of a group over what its keys hold.
-pub fn project_all(slots: &mut BTreeMap<CellKey, Slot>, ws: Vec<CellWrite>, ends: u64)
+// Puts the values of a group over what its keys hold.
+fn project_all(slots: &mut BTreeMap<CellKey, Slot>, ws: Vec<CellWrite>, ends: u64)
     ensures { slots_of slots.new ≡ all_projected ends (slots_of slots.old) ws.items }
 {
     for w in ws {
         let CellWrite { key, value } = w;
         project(slots, &key, value, ends);
     }
+}
+
+/// Puts a group over what its keys hold, whose set then has those of them that are there. `copies` are its writes again.
+pub fn project_group(
+    slots: &mut BTreeMap<CellKey, Slot>,
+    there: &mut BTreeSet<CellKey>,
+    ws: &[CellWrite],
+    copies: Vec<CellWrite>,
+    ends: u64,
+)
+    requires { copies.items ≡ ws.now }
+    ensures slots { slots_of slots.new ≡ all_projected ends (slots_of slots.old) ws.now }
+    ensures there { KeepsThere (slots_of slots.new) there.old ws.now there.new }
+{
+    project_all(slots, copies, ends);
+    drop_absent(slots, there, ws);
 }
 
 /// Makes the values of a group the safe ones.

@@ -1,4 +1,4 @@
-use Rattle.std.proofs.Common.{Some, true, refl, sym, ap, subst, ◌∙◌}
+use Rattle.std.proofs.Common.{true, refl, ap, subst, ◌∙◌}
 use Rattle.mj_maps.specs.Map.{insert, remove}
 use Rattle.mj_cells.proofs.Kept.{one_given}
 use Rattle.mj_tables.specs.Slots.{slots_of, safe_slot, Moved}

@@ -1,9 +1,8 @@
-use Rattle.std.proofs.Common.{◌≡◌, true, false, None, Some, sym, ap, subst, ◌∙◌}
-use Rattle.std.specs.Prelude.{option_map}
+use Rattle.std.proofs.Common.{◌≡◌, ap, subst, ◌∙◌}
 use Rattle.mj_maps.specs.Map.{get, empty, from_entries}
 use Rattle.mj_maps.proofs.MapLaws.{get_empty}
 use Rattle.mj_cells.specs.Cell.{key_cmp}
-use Rattle.mj_tables.specs.Slots.{Slots, slots_of, safe_slot, Moves}
+use Rattle.mj_tables.specs.Slots.{Slots, slots_of, Moves}
 use Rattle.mj_tables.proofs.Moved.{joined_at, joined_start, moves_join, moves_apart, moves_less, all_moved}
 use Rattle.mj_tables.proofs.moving.slots_from.Goals as goal
 

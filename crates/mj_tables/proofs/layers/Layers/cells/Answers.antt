@@ -1,9 +1,7 @@
-use Rattle.std.proofs.Common.{◌≡◌, [], ◌∷◌, ◌++◌, List, map, Some, None, refl, sym, ap, ◌∙◌, append-nil}
+use Rattle.std.proofs.Common.{◌++◌, List, map, sym, ap, ◌∙◌, append-nil}
 use Rattle.mj_maps.specs.Map.{entries, picked}
-use Rattle.mj_cells.specs.declared.cell.CellKey.{CellKey}
 use Rattle.mj_cells.specs.declared.table.CellView.{CellView}
 use Rattle.mj_cells.specs.Next.{cell_of}
-use Rattle.mj_tables.specs.declared.slot.Slot.{Slot}
 use Rattle.mj_tables.specs.Layered.{early_cells}
 use Rattle.mj_tables.proofs.SlotTrees.{early_entry, early_entries, picked_none, picked_some, views_push}
 use Rattle.mj_tables.proofs.layers.Layers.cells.Goals as goal
@@ -28,5 +26,5 @@ pub returns : goal.returns
 returns c =
     sym (append-nil (map cell_of c.loop-key.found.items)) ∙ ap (λ xs. map cell_of c.loop-key.found.items ++ picked early_entry xs) (sym c.in-None.ensures.steps.0) ∙ c.loop-key.invariant
     ∙ ap (picked early_entry) (c.into_iter-key-iterator.ensures.into_iter_gives ∙ c.iter-key-items.ensures.rest)
-    ∙ early_entries c.self.inside.slots.entries c.self.inside.groups.items c.iter-key-items.ensures.ordered c.self.invariant
+    ∙ early_entries c.self.inside.slots.entries c.self.inside.groups.items c.iter-key-items.ensures.ordered c.self.invariant.laid
     ∙ ap (λ l. entries (early_cells l)) c.self.view_is

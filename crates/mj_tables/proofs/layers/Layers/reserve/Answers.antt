@@ -1,8 +1,12 @@
 use Rattle.std.proofs.Common.{sym, subst}
 use Rattle.mj_tables.specs.Layered.{HasRoom}
 use Rattle.mj_tables.specs.Slots.{Slots, slots_of, rooms}
+use Rattle.mj_tables.proofs.KeySets.{room_of_both, all_added}
 use Rattle.mj_tables.proofs.Laid.{room-all_room}
 use Rattle.mj_tables.proofs.layers.Layers.reserve.Goals as goal
 
 pub returns-clause-room : goal.returns-clause-room
-returns-clause-room c = subst (λ (m : Slots). HasRoom (rooms m) c.args.ws.now) (sym c.in_ok-make_all_room.ensures.ok) (room-all_room (slots_of c.self.inside.slots) c.args.ws.now)
+returns-clause-room c =
+    room_of_both (slots_of c.make_all_room.new.slots) c.add_all.new.there c.args.ws.now
+    (subst (λ (m : Slots). HasRoom (rooms m) c.args.ws.now) (sym c.in_ok-make_all_room.ensures.ok) (room-all_room (slots_of c.self.inside.slots) c.args.ws.now))
+    (all_added c.self.inside.there c.args.ws.now c.add_all.new.there c.in_ok-add_all.ensures.ok)

@@ -1,0 +1,83 @@
+//! The keys whose early values are there, as a set, and room in it.
+
+ghost use Rattle.std.specs.Prelude.{◌≡◌, IfOk, OnOk};
+ghost use Rattle.std.specs.Option.{option_copied};
+ghost use Rattle.mj_tables.specs.Slots.{slots_of};
+ghost use Rattle.mj_tables.specs.Listed.{there_at, AreThere, Adds, AddsAll, Keeps, KeepsThere, AllStay};
+
+use crate::slot::Slot;
+use mj_cells::{CellKey, CellValue, CellWrite};
+use std::alloc::{AllocError, Global};
+use std::collections::{BTreeMap, BTreeSet};
+
+/// The early value of a key, where it is neither gone nor null.
+pub fn there_at<'a>(slots: &'a BTreeMap<CellKey, Slot>, key: &CellKey) -> Option<&'a CellValue>
+    ensures { option_copied result ≡ there_at (slots_of slots.now) key.now }
+{
+    match slots.get(key) {
+        Some(slot) => slot.there(),
+        None => None,
+    }
+}
+
+/// The keys that are there.
+pub fn keys_there(
+    alloc: Global,
+    slots: &BTreeMap<CellKey, Slot>,
+) -> Result<BTreeSet<CellKey>, AllocError>
+    ensures { IfOk result (λ there. AreThere (slots_of slots.now) there) }
+{
+    let mut there = BTreeSet::new(alloc);
+    for (key, slot) in slots.iter() {
+        if slot.there().is_some() {
+            let copy = key.copy(alloc)?;
+            there.insert(copy)?;
+        }
+    }
+    Ok(there)
+}
+
+// A key that stands in the set already needs no memory.
+fn add_key(alloc: Global, there: &mut BTreeSet<CellKey>, key: &CellKey) -> Result<(), AllocError>
+    ensures ok { OnOk result (Adds there.old key.now there.new) }
+    ensures stay { AllStay there.old there.new }
+{
+    if !there.contains(key) {
+        let copy = key.copy(alloc)?;
+        there.insert(copy)?;
+    }
+    Ok(())
+}
+
+/// Makes room for the keys of these writes.
+pub fn add_all(
+    alloc: Global,
+    there: &mut BTreeSet<CellKey>,
+    ws: &[CellWrite],
+) -> Result<(), AllocError>
+    ensures ok { OnOk result (AddsAll there.old ws.now there.new) }
+    ensures stay { AllStay there.old there.new }
+{
+    for w in ws {
+        add_key(alloc, there, &w.key)?;
+    }
+    Ok(())
+}
+
+// Takes the key out, unless it is there.
+fn drop_absent_key(slots: &BTreeMap<CellKey, Slot>, there: &mut BTreeSet<CellKey>, key: &CellKey)
+    ensures { Keeps (slots_of slots.now) there.old key.now there.new }
+{
+    if there_at(slots, key).is_none() {
+        there.remove(key);
+    }
+}
+
+/// Takes the keys of these writes out that are not there.
+pub fn drop_absent(slots: &BTreeMap<CellKey, Slot>, there: &mut BTreeSet<CellKey>, ws: &[CellWrite])
+    ensures { KeepsThere (slots_of slots.now) there.old ws.now there.new }
+{
+    for w in ws {
+        drop_absent_key(slots, there, &w.key);
+    }
+}
