@@ -29,7 +29,9 @@ use Rattle.mj_facts.specs.Calls.{appended, wanted_more, with_event, IsBuffer, Ma
 use Rattle.mj_facts.proofs.Entries.{ends_append, ends_kept, place_rest}
 use Rattle.mj_facts.proofs.Computed.{may_append, buffer_event, ends_more}
 use Rattle.mj_facts.proofs.WhileServing.{serves_appended}
-use Rattle.mj_rank.specs.Log.{LogValue, log_end, entry_end, with_entry}
+use Rattle.mj_journaler.specs.Journal as stream
+use Rattle.mj_journaler.specs.Journal.{Journal}
+use Rattle.mj_rank.specs.Log.{entry_end, with_entry}
 use Rattle.mj_rank.specs.Journaled.{IsServedRequest, IsWritable, event_of, version_after}
 use Rattle.mj_rank.specs.History.{IsHistory, turns_end}
 use Rattle.mj_rank.specs.Live.{IsLogOf, Lives}
@@ -44,7 +46,7 @@ carries_more rank t s [] e r c g = (g, tt)
 carries_more rank t s ((x, None) ∷ xs) e r c g = (c.0, carries_more rank t s xs e r c.1 (subst (λ y. GivesTree rank y (after_all s (requests xs)) r e) (ap (λ ws. overlay t (ws ++ all_writes xs)) c.0.1) g))
 carries_more rank t s ((x, Some q) ∷ xs) e r c g = (c.0, carries_more rank (overlay t (writes_of x)) (after s q) xs e r c.1 (subst (λ y. GivesTree rank y (after_all (after s q) (requests xs)) r e) (overlay-append t (writes_of x) (all_writes xs)) g))
 
-module _ (rank : ℕ) (l : LogValue) (tree : PlainState) (version : ℕ) (m : LogMachine) (s : StoreState) (k : Lives rank l tree version m s) where
+module _ (rank : ℕ) (l : Journal) (tree : PlainState) (version : ℕ) (m : LogMachine) (s : StoreState) (k : Lives rank l tree version m s) where
   abbrev all : List Turn
   all = k.older ++ k.newer
 
@@ -61,7 +63,7 @@ module _ (rank : ℕ) (l : LogValue) (tree : PlainState) (version : ℕ) (m : Lo
   has_tree : IsTreeOf rank t tree
   has_tree = subst (IsTreeOf rank t) (sym state_is) (whole_tree rank (fresh_table rank) (new_state rank) all (fresh_tree rank k.history.small) k.history.carries)
 
-  log_ends : log_end l ≡ end_of j
+  log_ends : stream.end_of l ≡ end_of j
   log_ends = omega (arith, k.log.flushed, k.log.buffer.ends)
 
   -- ---- where nothing changes
@@ -151,11 +153,11 @@ module _ (rank : ℕ) (l : LogValue) (tree : PlainState) (version : ℕ) (m : Lo
         let left : drop k.facts.count (j.events ++ e ∷ []) ≡ drop k.facts.count j.events ++ e ∷ [] = drop-append-le k.facts.count j.events (e ∷ []) k.serves.within in
         let last : ends (safe_of k.facts) (drop k.facts.count j.events) + size_of e ≡ entry_end l (event_bytes e) = omega (arith, place_rest j k.facts.count, log_ends) in
         record {
+          number = k.log.number;
           layout = k.log.layout;
-          ino = k.log.ino;
           safe = k.log.safe ∙ sym safe_same;
           flushed = k.log.flushed;
-          buffer = subst (λ (n : ℕ). IsBuffer (with_event e j) k.facts.flushed (l.bytes ++ entry_bytes n (event_bytes e))) (sym log_ends) (buffer_event j e k.facts.flushed l.bytes k.log.buffer);
+          buffer = subst (λ (n : ℕ). IsBuffer (with_event e j) k.facts.flushed (l.buffer ++ entry_bytes n (event_bytes e))) (sym log_ends) (buffer_event j e k.facts.flushed l.buffer k.log.buffer);
           ends = (λ z. k.log.ends z ++ sym last z ∷ []) ∙ (sym (ends_more (safe_of k.facts) (drop k.facts.count j.events) e) ∙ (λ z. entry_ends (sym safe_same z) (sym left z)));
           writes = k.log.writes;
         }
@@ -165,6 +167,7 @@ module _ (rank : ℕ) (l : LogValue) (tree : PlainState) (version : ℕ) (m : Lo
       facts = facts_after;
       serves = serves_appended k.facts s (e ∷ []) want k.serves may;
       log = log_with;
+      newest = record { sent = k.newest.sent; heads = k.newest.heads; removals = k.newest.removals };
       older = k.older;
       newer = newer;
       history = history;

@@ -1,7 +1,9 @@
 -- A mount begins on what rests: the machine is stopped at the tail that it found.
-use Rattle.std.proofs.Common.{◌≡◌, inl, inr, ℕ, ◌-◌, ◌^◌, ◌<◌, ◌≤◌, true, List, [], ◌++◌, length, take, Option, Some, None, Ok, refl, sym, ap, subst, ◌∙◌, arith}
+use Rattle.std.proofs.Common.{◌≡◌, inl, inr, ℕ, ◌-◌, ◌/◌, ◌^◌, ◌<◌, ◌≤◌, true, List, [], ◌++◌, length, take, Option, Some, None, Ok, refl, sym, ap, subst, ◌∙◌, arith}
 use Rattle.std.specs.Prelude.{IsSome, nat_lt, nat_le, unwrap_or}
 use Rattle.std.proofs.lemmas.Bool.{and_from, le-leb, lt-ltb}
+use Rattle.std.proofs.lemmas.Nat.{le-div, mul-le}
+use Rattle.std.proofs.Math.Nat.{div-mul-le_self}
 use Rattle.std.proofs.lemmas.List.{append-nil, take-append-drop, length-take-le}
 use Rattle.mj_maps.specs.Map.{get}
 use Rattle.mj_tree.specs.State.{root, new_state}
@@ -11,6 +13,9 @@ use Rattle.mj_store.specs.State.{StoreState, Quiet, contents}
 use Rattle.mj_layout.specs.Striping.{period}
 use Rattle.mj_layout.specs.Header.{IsHeader}
 use Rattle.mj_layout.specs.declared.Header.{Header}
+use Rattle.mj_layout.proofs.Striped.{sizes}
+use Rattle.mj_entry.specs.Entry.{entry_length}
+use Rattle.mj_event.specs.Event.{event_bytes}
 use Rattle.mj_cells.specs.Table.{Table, overlay}
 use Rattle.mj_recovery.specs.declared.journal.LiveJournal.{LiveJournal}
 use Rattle.mj_recovery.specs.Journal.{live_journal}
@@ -27,7 +32,8 @@ use Rattle.mj_facts.specs.Journalled.{Journalled, IsJournalled, place_of, taken}
 use Rattle.mj_facts.specs.Headers.{IsBounded}
 use Rattle.mj_facts.specs.Ranks as facts
 use Rattle.mj_facts.specs.Ranks.{tail_of}
-use Rattle.mj_facts.specs.Mounts.{MountInOrder, begun}
+use Rattle.mj_facts.specs.Mounts.{begun}
+use Rattle.mj_facts.specs.Calls.{IsNear}
 use Rattle.mj_facts.specs.Rests.{Rests, journal_of}
 use Rattle.mj_facts.proofs.Entries.{place_above, place_back}
 use Rattle.mj_facts.proofs.Laws.{ordered, stop_begins}
@@ -35,11 +41,12 @@ use Rattle.mj_facts.proofs.Quiet.{mounts_quiet}
 use Rattle.mj_facts.proofs.Computed.{bounded_again}
 use Rattle.mj_facts.proofs.WhileMounting.{place_taken, rests_taken, taken_header}
 use Rattle.mj_rank.specs.declared.found.Found.{Found}
-use Rattle.mj_rank.specs.declared.mounting.Mounting as mounting
 use Rattle.mj_rank.specs.declared.mounting.Stage.TheVariants.{Announcing}
-use Rattle.mj_rank.specs.FirstPath.{first_objects, first_path_in, is_clear_later, journal_limit, IsFound}
-use Rattle.mj_rank.specs.Mount.{first_log, next_header}
-use Rattle.mj_rank.specs.Mounts.{MountValue, mount_value, Begins}
+use Rattle.mj_rank.specs.FirstPath.{first_objects, first_path_in, journal_limit, IsFound}
+use Rattle.mj_rank.specs.Cutting.{near_from, near_end}
+use Rattle.mj_rank.specs.Log.{entry_end}
+use Rattle.mj_rank.specs.Mount.{empty_log, first_log, next_header, subtree_map}
+use Rattle.mj_rank.specs.Mounts.{MountValue}
 use Rattle.mj_rank.specs.History.{IsHistory}
 use Rattle.mj_rank.specs.Live.{Rested, Mounted, IsNewStore}
 use Rattle.mj_rank.proofs.Crashes.{live_from, take_over}
@@ -47,8 +54,26 @@ use Rattle.mj_rank.proofs.Members.{events_take}
 use Rattle.mj_rank.proofs.Turns.{early_is, history_safe, more_end}
 use Rattle.mj_rank.proofs.FirstHistory.{fresh_recovers, fresh_merged}
 use Rattle.mj_rank.proofs.FirstObjects.{first_fresh}
-use Rattle.mj_rank.proofs.FirstMount.{FoundFirst, header_in, journal_in, of_first, header_found, journal_found, tail_found, none_above}
+use Rattle.mj_rank.proofs.FirstMount.{FoundFirst, header_in, journal_in, of_first, header_found, journal_found, tail_found}
 use Rattle.mj_rank.proofs.Inverted.{ok_is, recovered_journal}
+
+-- a mount that has found this and has sent nothing, whatever number stands for its last header
+abbrev pub begun_value : ℕ → Found → ℕ → MountValue
+begun_value rank found sent = record {
+  number = rank;
+  header = next_header found.header found.tail;
+  found = found.header;
+  tail = found.tail;
+  tree = state_of found.tree;
+  root_version = found.root_version;
+  log = first_log found.header rank found.tail;
+  stage = Announcing;
+  sent = sent;
+  next = near_from found.header.layout found.tail;
+  end = near_end found.header.layout found.tail;
+  out = [];
+  fault = None;
+}
 
 -- ---- a stop takes a front of the history
 
@@ -126,7 +151,7 @@ module _ (rank : ℕ) (m : LogMachine) (s : StoreState) (quiet : Quiet s) (new :
   abbrev h : Header
   h = t.rests.header
 
-  abbrev first : FoundFirst found (is_clear_later rank s) (length (journal_in rank s)) (recovered rank (objects_of (first_objects rank (header_in rank s) (journal_in rank s))))
+  abbrev first : FoundFirst found (length (journal_in rank s)) (recovered rank (objects_of (first_objects rank (header_in rank s) (journal_in rank s))))
   first = of_first rank small s j0 found is
 
   abbrev r : Recovery
@@ -143,6 +168,9 @@ module _ (rank : ℕ) (m : LogMachine) (s : StoreState) (quiet : Quiet s) (new :
 
   low : found.tail < journal_limit
   low = omega (arith, first.found_is.tail, first.first.low)
+
+  fits : entry_end (empty_log found.header rank found.tail) (event_bytes (subtree_map rank)) < 2 ^ 62
+  fits = let size : entry_length (event_bytes (subtree_map rank)) ≡ 44 = refl in omega (arith, low, size)
 
   abbrev live : List Turn
   live = front rank j t.older t.newer m t.count found.tail t.history t.enough tail_at
@@ -198,36 +226,43 @@ module _ (rank : ℕ) (m : LogMachine) (s : StoreState) (quiet : Quiet s) (new :
       low_start : j.start ≤ place_of j t.count
       low_start = place_above j t.count
 
-  ordered_mount : MountInOrder facts_begun
-  ordered_mount = record {
-    acked = refl;
-    cut = λ x up near. inl (none_above rank small s j0 found is t.count t.journalled t.rests x (omega (arith, up, tail_begun)));
-  }
+  -- ---- the objects near the tail
 
-  abbrev value : ℕ → MountValue
-  value sent = record {
-    number = rank;
-    header = next_header found.header found.tail;
-    found = found.header;
-    tail = found.tail;
-    tree = state_of found.tree;
-    root_version = found.root_version;
-    log = first_log found.header.layout rank found.tail;
-    stage = Announcing;
-    sent = sent;
-    fault = None;
-  }
+  layout_begun : found.header.layout ≡ j.layout
+  layout_begun = ap (λ (x : Header). x.layout) header_is ∙ t.rests.bounded.layout
 
-  mount_begun : (sent : ℕ) → Mounted (value sent) (stopped m found.tail) s
+  tail_is : found.tail ≡ tail_of facts_begun
+  tail_is = tail_at ∙ sym tail_begun
+
+  near_first : near_from found.header.layout found.tail ≡ near_from j.layout (tail_of facts_begun)
+  near_first = λ i. near_from (layout_begun i) (tail_is i)
+
+  -- the first of them does not hold the header
+  no_header : 1 ≤ near_from found.header.layout found.tail
+  no_header =
+      let z = sizes j.layout t.journalled.layout in
+      let set : 1 ≤ tail_of facts_begun / period j.layout = le-div 1 (tail_of facts_begun) (period j.layout) (omega (arith, z.period_least)) (omega (arith, t.journalled.aligned, tail_begun, place_above j t.count)) in
+      omega (arith, near_first, mul-le 1 1 (tail_of facts_begun / period j.layout) j.layout.sc set z.sc)
+
+  none_near : (index : ℕ) → IsNear facts_begun index → index < near_from found.header.layout found.tail → ⊥
+  none_near index near less =
+      let z = sizes j.layout t.journalled.layout in
+      omega (arith, near_first, less, near.from, div-mul-le_self index j.layout.sc, mul-le (tail_of facts_begun / period j.layout) j.layout.sc (index / j.layout.sc) j.layout.sc near.from (omega arith))
+
+  mount_begun : (sent : ℕ) → Mounted (begun_value rank found sent) (stopped m found.tail) s
   mount_begun sent = record {
     facts = facts_begun;
     mounts = mounts_quiet facts_begun s quiet (stop_begins j t.count (contents s) s t.journalled t.rests);
-    in_order = ordered_mount;
+    first = no_header;
+    end_is = refl;
+    seen = λ index near less. absurd (none_near index near less);
+    out_is = refl;
+    cut = refl;
     turns = live;
     history = history_stopped rank j t.older t.newer m t.count found.tail t.history t.enough tail_at;
-    layout_is = ap (λ (x : Header). x.layout) header_is ∙ t.rests.bounded.layout;
-    tail_is = tail_at ∙ sym tail_begun;
-    low = low;
+    layout_is = layout_begun;
+    tail_is = tail_is;
+    fits = fits;
     tree_is = tree_is;
     version_is = version_is;
     log_is = refl;
@@ -237,18 +272,6 @@ module _ (rank : ℕ) (m : LogMachine) (s : StoreState) (quiet : Quiet s) (new :
     new = new;
   }
 
-pub begins_mounted : {S : Type 0} (rank : ℕ) (m : LogMachine) (s : StoreState) (k : mounting.Mounting S) → Rested rank m s → Begins rank k → IsFound k.found (first_path_in rank s) → Mounted (mount_value k) (stopped m k.found.tail) s
-begins_mounted rank m s k rested b is =
-    let begun : Mounted _ (stopped m k.found.tail) s = mount_begun rank m s rested.quiet rested.new rested.journal (resting rank m s rested) k.found is k.sent in
-    subst (λ (v : MountValue). Mounted v (stopped m k.found.tail) s) (λ z. record {
-      number = sym b.number z;
-      header = sym b.header z;
-      found = k.found.header;
-      tail = k.found.tail;
-      tree = state_of k.found.tree;
-      root_version = k.found.root_version;
-      log = sym b.log z;
-      stage = sym b.stage z;
-      sent = k.sent;
-      fault = sym b.fault z;
-    }) begun
+pub begins_mounted : (rank : ℕ) (m : LogMachine) (s : StoreState) (found : Found) (sent : ℕ) (v : MountValue) → v ≡ begun_value rank found sent → Rested rank m s → IsFound found (first_path_in rank s) → Mounted v (stopped m found.tail) s
+begins_mounted rank m s found sent v e rested is = subst (λ (x : MountValue). Mounted x (stopped m found.tail) s) (sym e)
+    (mount_begun rank m s rested.quiet rested.new rested.journal (resting rank m s rested) found is sent)

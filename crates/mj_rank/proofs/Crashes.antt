@@ -36,7 +36,7 @@ use Rattle.mj_facts.proofs.Entries.{place_back}
 use Rattle.mj_facts.proofs.Few.{few_image}
 use Rattle.mj_facts.proofs.Uncommitted.{uncommitted_elsewhere, uncommitted_keys, uncommitted_table}
 use Rattle.mj_facts.proofs.Laws.{serving_leaves}
-use Rattle.mj_rank.specs.Log.{LogValue}
+use Rattle.mj_journaler.specs.Journal.{Journal}
 use Rattle.mj_rank.specs.History.{IsHistory, members, turns_end}
 use Rattle.mj_rank.specs.Live.{Recovers, LeavesFronts, IsNewStore, Lives}
 use Rattle.mj_rank.proofs.FirstHistory.{StoresFresh, fresh_recovers}
@@ -136,7 +136,7 @@ front_recovers rank j older newer m safe headers image s h enough whole new im f
     )
 
 -- of a rank
-pub lives_leave : (rank : ℕ) (l : LogValue) (tree : PlainState) (version : ℕ) (m : LogMachine) (s : StoreState) → Lives rank l tree version m s → LeavesFronts rank m s
+pub lives_leave : (rank : ℕ) (l : Journal) (tree : PlainState) (version : ℕ) (m : LogMachine) (s : StoreState) → Lives rank l tree version m s → LeavesFronts rank m s
 lives_leave rank l tree version m s k image im =
     front_recovers rank k.facts.journal k.older k.newer m k.facts.count (may_stand k.facts.stood k.facts.heads) image s k.history (omega (arith, k.count)) k.whole k.new im
     (serving_leaves k.facts s image k.serves im)

@@ -1,15 +1,14 @@
 -- What a mount on the first path finds is what rests in its store.
-use Rattle.std.proofs.Common.{◌≡◌, inl, inr, ℕ, ◌+◌, ◌-◌, ◌/◌, ◌%◌, ◌^◌, ◌<◌, ◌≤◌, Bool, true, false, ◌&&◌, ◌==◌, List, length, Option, Some, None, Result, Ok, Err, refl, sym, ap, subst, ◌∙◌, arith}
-use Rattle.std.specs.Prelude.{nat_lt, option_map, if◌then◌else◌}
+use Rattle.std.proofs.Common.{◌≡◌, ℕ, ◌+◌, ◌-◌, ◌/◌, ◌%◌, ◌^◌, ◌<◌, ◌≤◌, true, false, ◌&&◌, ◌==◌, List, length, Option, Some, None, Result, Ok, Err, refl, sym, ap, subst, ◌∙◌, arith}
+use Rattle.std.specs.Prelude.{nat_lt, nat_le, option_map, if◌then◌else◌, IsTrue}
 use Rattle.std.specs.List.{list_all}
-use Rattle.std.proofs.lemmas.Bool.{and_parts, cases_lt, eqb-true, ltb-true}
+use Rattle.std.proofs.lemmas.Bool.{and_from, and_parts, eqb-true, le-leb, lt-ltb, ltb-true}
 use Rattle.mj_base.specs.declared.damage.Damage.{Damage}
 use Rattle.mj_store.specs.Object.{Content, Contents}
 use Rattle.mj_store.specs.State.{StoreState, contents}
 use Rattle.mj_store.specs.Moves.{bytes_from}
-use Rattle.mj_layout.specs.Striping.{Striping}
-use Rattle.mj_layout.specs.Placing.{window_end}
-use Rattle.mj_layout.specs.Header.{header_bytes}
+use Rattle.mj_layout.specs.Striping.{Striping, is_striping, period}
+use Rattle.mj_layout.specs.Header.{header_bytes, IsHeader}
 use Rattle.mj_layout.specs.declared.Header.{Header}
 use Rattle.mj_recovery.specs.declared.journal.LiveEvent.{LiveEvent}
 use Rattle.mj_recovery.specs.declared.journal.LiveJournal.{LiveJournal}
@@ -25,11 +24,11 @@ use Rattle.mj_facts.specs.Rests.{Rests, journal_of}
 use Rattle.mj_facts.proofs.Heads.{header_is, header_long}
 use Rattle.mj_facts.proofs.Recovers.{byte_there, rests_read}
 use Rattle.mj_rank.specs.declared.found.Found.{Found}
-use Rattle.mj_rank.specs.FirstPath.{first_objects, is_first, is_first_header, is_default, is_first_event, where_first, first_path_in, is_clear_later, header_bytes_read, journal_bytes_read, journal_begin, journal_limit, IsFound, IsFoundIn}
+use Rattle.mj_rank.specs.FirstPath.{first_objects, is_first, is_first_header, is_default, is_first_event, where_first, first_path_in, header_bytes_read, journal_bytes_read, journal_begin, journal_limit, IsFound, IsFoundIn}
 use Rattle.mj_rank.specs.Sound.{is_sound}
-use Rattle.mj_rank.proofs.StillReads.{clear_none}
-use Rattle.mj_rank.proofs.FirstObjects.{header_there, first_there, none_later}
-use Rattle.mj_rank.proofs.FirstBytes.{default_layout, object_is, offset_is, window_is, whole_read, read_byte, none_behind, empty_object, same_stream}
+use Rattle.mj_rank.specs.Mount.{next_header}
+use Rattle.mj_rank.proofs.FirstObjects.{header_there, first_there}
+use Rattle.mj_rank.proofs.FirstBytes.{default_layout, object_is, offset_is, whole_read, read_byte, none_behind, same_stream}
 use Rattle.mj_rank.proofs.Inverted.{recovered_journal, journal_header, same_journal, ok_is}
 
 -- ---- what was looked at
@@ -37,6 +36,8 @@ use Rattle.mj_rank.proofs.Inverted.{recovered_journal, journal_header, same_jour
 -- what holds where a recovery is on the first path
 pub record OnFirst (len : ℕ) (r : Recovery) : Type 0 where
   pub layout : r.journal.header.layout ≡ default_layout
+  pub format : r.journal.header.format ≡ 1
+  pub trimmed : r.journal.header.trimmed ≡ journal_begin
   pub expire : r.journal.header.expire ≡ journal_begin
   pub tail : r.journal.tail ≡ journal_begin + len
   pub low : r.journal.tail < journal_limit
@@ -62,24 +63,41 @@ on_first len r e =
     let os : s.os ≡ 4194304 = eqb-true s.os 4194304 j.1 in
     record {
       layout = λ z. record { su = su z; sc = sc z; os = os z };
+      format = eqb-true h.format 1 i.1;
+      trimmed = eqb-true h.trimmed journal_begin g.1;
       expire = eqb-true h.expire journal_begin f.1;
       tail = eqb-true r.journal.tail (journal_begin + len) d.1;
       low = ltb-true r.journal.tail journal_limit c.1;
     }
 
--- what was found is a recovery on the first path, with nothing in the later objects
-pub record FoundFirst (found : Found) (clear : Bool) (len : ℕ) (x : Result Recovery Damage) : Type 0 where
-  pub clear_is : clear ≡ true
+-- the next header is sound
+pub first_goes_on : (len : ℕ) (r : Recovery) → is_first len r ≡ true → IsHeader (next_header r.journal.header r.journal.tail)
+first_goes_on len r e =
+    let f = on_first len r e in
+    let h = r.journal.header in
+    let tail = r.journal.tail in
+    let trimmed : nat_le (period h.layout) h.trimmed ≡ true = le-leb (period h.layout) h.trimmed (omega (arith, ap period f.layout, f.trimmed)) in
+    let expire : nat_le h.trimmed h.expire ≡ true = le-leb h.trimmed h.expire (omega (arith, f.trimmed, f.expire)) in
+    let write : nat_le h.expire tail ≡ true = le-leb h.expire tail (omega (arith, f.expire, f.tail)) in
+    let under : nat_lt tail (2 ^ 62) ≡ true = lt-ltb tail (2 ^ 62) (omega (arith, f.low)) in
+    record {
+      layout = subst (λ (s : Striping). IsTrue (is_striping s)) (sym f.layout) refl;
+      format = omega (arith, f.format);
+      epoch = omega arith;
+      order = and_from _ _ (and_from _ _ (and_from _ _ trimmed expire) write) under;
+    }
+
+-- what was found is a recovery on the first path
+pub record FoundFirst (found : Found) (len : ℕ) (x : Result Recovery Damage) : Type 0 where
   pub recovery : Recovery
   pub recovers : x ≡ Ok recovery
   pub first : OnFirst len recovery
   pub found_is : IsFoundIn found recovery
 
-found_first : (found : Found) (clear : Bool) (len : ℕ) (x : Result Recovery Damage) → IsFound found (if clear then where_first len x else None) → FoundFirst found clear len x
-found_first found false len x is = absurd is
-found_first found true len (Err d) is = absurd is
-found_first found true len (Ok r) is = elim (is_first len r) as (λ b. is_first len r ≡ b → IsFound found (if b then Some r else None) → FoundFirst found true len (Ok r)) [
-  | true ↦ λ e f. record { clear_is = refl; recovery = r; recovers = refl; first = on_first len r e; found_is = f }
+found_first : (found : Found) (len : ℕ) (x : Result Recovery Damage) → IsFound found (where_first len x) → FoundFirst found len x
+found_first found len (Err d) is = absurd is
+found_first found len (Ok r) is = elim (is_first len r) as (λ b. is_first len r ≡ b → IsFound found (if b then Some r else None) → FoundFirst found len (Ok r)) [
+  | true ↦ λ e f. record { recovery = r; recovers = refl; first = on_first len r e; found_is = f }
   | false ↦ λ e f. absurd f
 ] refl is
 
@@ -108,8 +126,8 @@ module _ (rank : ℕ) (small : rank ≤ 15) (s : StoreState) (j0 : Journalled) (
   abbrev read : Contents
   read = image_of (first_objects rank header journal)
 
-  pub of_first : FoundFirst found (is_clear_later rank s) (length journal) (recovered rank (objects_of (first_objects rank header journal)))
-  of_first = found_first found (is_clear_later rank s) (length journal) (recovered rank (objects_of (first_objects rank header journal))) is
+  pub of_first : FoundFirst found (length journal) (recovered rank (objects_of (first_objects rank header journal)))
+  of_first = found_first found (length journal) (recovered rank (objects_of (first_objects rank header journal))) is
 
   abbrev r : Recovery
   r = of_first.recovery
@@ -162,44 +180,25 @@ module _ (rank : ℕ) (small : rank ≤ 15) (s : StoreState) (j0 : Journalled) (
     has_there : (x : ℕ) → 4194304 ≤ x → x < place_of j count → byte_at image rank default_layout x ≡ Some (j.want x)
     has_there x lo hi = subst (λ (l : Striping). byte_at image rank l x ≡ Some (j.want x)) layout_is (rests.has x (omega (arith, starts, lo)) hi)
 
-    -- the journal ends where the first object does, or before
-    ends_low : place_of j count < journal_limit
-    ends_low = elim (cases_lt (4194304 + length journal) (place_of j count)) [
-      | inl less ↦
-          let x = 4194304 + length journal in
-          let none : byte_at image rank default_layout x ≡ None =
-          there_in image x 1 (omega (arith, read_all)) ∙ none_behind journal_bytes_read (x % 4194304) (image (journal_object rank 1)) read_all (omega (arith, read_all)) in
-          absurd (none_some (j.want x) (sym none ∙ has_there x (omega arith) less))
-      | inr within ↦ omega (arith, within, read_all)
-    ]
-      where
-        none_some : (b : ℕ) → None ≡ Some b → ⊥
-        none_some b e = cc
+    -- the first position behind what was read
+    abbrev behind : ℕ
+    behind = 4194304 + length journal
 
-    -- nothing is in the later objects
-    none_in_later : (x : ℕ) → 8388608 ≤ x → byte_at image rank default_layout x ≡ None
-    none_in_later x lo = elim (cases_lt x 25165824) [
-      | inl near ↦ there image x ∙ empty_object (x % 4194304) (image (journal_object rank (x / 4194304))) (clear_none rank s of_first.clear_is (x / 4194304) (omega (arith, lo)) (omega (arith, near)))
-      | inr far ↦ subst (λ (l : Striping). byte_at image rank l x ≡ None) layout_is
-          (rests.clear x (omega (arith, ap (λ (l : Striping). window_end l (place_of j count)) layout_is, window_is (place_of j count) ends_low, far)))
-    ]
+    same_byte : (x : ℕ) → 4194304 ≤ x → x ≤ behind → byte_at read rank default_layout x ≡ byte_at image rank default_layout x
+    same_byte x lo hi =
+        let one : x / 4194304 ≡ 1 = omega (arith, lo, hi, read_all) in
+        there_in read x 1 one
+        ∙ (ap (byte_in (x % 4194304)) (first_there rank small header journal)
+        ∙ (read_byte journal_bytes_read (x % 4194304) (image (journal_object rank 1)) read_all ∙ sym (there_in image x 1 one)))
 
-    same_byte : (x : ℕ) → 4194304 ≤ x → byte_at read rank default_layout x ≡ byte_at image rank default_layout x
-    same_byte x lo = elim (cases_lt x 8388608) [
-      | inl first ↦
-          let one : x / 4194304 ≡ 1 = omega (arith, lo, first) in
-          there_in read x 1 one
-          ∙ (ap (byte_in (x % 4194304)) (first_there rank small header journal)
-          ∙ (read_byte journal_bytes_read (x % 4194304) (image (journal_object rank 1)) read_all ∙ sym (there_in image x 1 one)))
-      | inr later ↦
-          there read x ∙ (ap (byte_in (x % 4194304)) (none_later rank small header journal (x / 4194304) (omega (arith, later))) ∙ sym (none_in_later x later))
-    ]
+    none_there : byte_at image rank default_layout behind ≡ None
+    none_there = there_in image behind 1 (omega (arith, read_all)) ∙ none_behind journal_bytes_read (behind % 4194304) (image (journal_object rank 1)) read_all (omega (arith, read_all))
 
     -- ---- so the journal is what rests
 
     pub journal_found : r.journal ≡ journal_of j h rests.bounded.first count
     journal_found =
-        let streams : stream read rank default_layout 4194304 ≡ stream image rank default_layout 4194304 = same_stream read image rank default_layout (2 ^ 62 - 4194304) 4194304 same_byte in
+        let streams : stream read rank default_layout 4194304 ≡ stream image rank default_layout 4194304 = same_stream read image rank default_layout (2 ^ 62 - 4194304) 4194304 behind (omega arith) same_byte none_there in
         let same : stream read rank h.layout h.expire ≡ stream image rank h.layout h.expire =
         (λ z. stream read rank (header_layout z) (starts z)) ∙ (streams ∙ sym (λ z. stream image rank (header_layout z) (starts z))) in
         ok_is r.journal (journal_of j h rests.bounded.first count)
@@ -207,12 +206,3 @@ module _ (rank : ℕ) (small : rank ≤ 15) (s : StoreState) (j0 : Journalled) (
 
     pub tail_found : r.journal.tail ≡ place_of j count
     tail_found = ap (λ (x : LiveJournal). x.tail) journal_found
-
-    -- nothing lies at or above its end
-    pub none_above : (x : ℕ) → place_of j count ≤ x → byte_at image rank j.layout x ≡ None
-    none_above x up = subst (λ (l : Striping). byte_at image rank l x ≡ None) (sym layout_is) (elim (cases_lt x 8388608) [
-      | inl first ↦
-          there_in image x 1 (omega (arith, tail_found, of_first.first.tail, up, first))
-          ∙ none_behind journal_bytes_read (x % 4194304) (image (journal_object rank 1)) read_all (omega (arith, tail_found, of_first.first.tail, up, first))
-      | inr later ↦ none_in_later x later
-    ])

@@ -1,198 +1,218 @@
--- A header in flight, through each event of its store.
-use Rattle.std.proofs.Common.{◌≡◌, ◌≢◌, ◌⊎◌, inl, inr, ℕ, true, false, List, [], ◌∷◌, ◌++◌, Option, Some, None, drop, refl, sym, ap, subst, ◌∙◌}
-use Rattle.std.proofs.lemmas.Bool.{cond-true, cond_both}
+-- What a mount has sent, through each event of its store.
+use Rattle.std.proofs.Common.{◌≡◌, ◌⊎◌, inl, inr, ℕ, true, false, List, [], ◌∷◌, ◌++◌, Option, Some, None, drop, refl, sym, ap, subst, ◌∙◌}
+use Rattle.std.proofs.lemmas.Bool.{cond_both}
 use Rattle.mj_base.specs.declared.object.ObjectName.{ObjectName}
 use Rattle.mj_store.specs.declared.act.ObjectOp.{ObjectOp}
 use Rattle.mj_store.specs.declared.answer.Ack.{Ack}
+use Rattle.mj_store.specs.Object.{applied, put}
 use Rattle.mj_store.specs.State.{StoreState, Object, Pending, Quiet, with_op, submitted, tried, failed, reported, front_done, front_failed}
+use Rattle.mj_store.specs.Along.{HasOp}
+use Rattle.mj_store.specs.Causes.{In}
 use Rattle.mj_store.specs.Events.{Tells}
-use Rattle.mj_store.specs.Moves.{IsIdle, Steps, Reaps, fronts_applied}
-use Rattle.mj_store.proofs.Names.{at_put, cases_name}
-use Rattle.mj_store.proofs.Rest.{tried_done, failed_not_done, fronts_sent, stepped, quiet_still, Done, NotDone, done_still, not_done_still}
-use Rattle.mj_store.proofs.Paths.{kept_fronts, steps_keeps}
-use Rattle.mj_rank.specs.declared.mounting.Stage.{Stage}
-use Rattle.mj_rank.specs.declared.mounting.Stage.TheVariants.{Announcing, Announced, Opening, Opened, Ready}
-use Rattle.mj_rank.specs.Mounts.{MountValue, header_op}
-use Rattle.mj_rank.specs.Since.{AwaitsNone, AwaitsSent}
-use Rattle.mj_rank.specs.Flight.{InFlight, HasCome, GoesOn, HasCompleted}
+use Rattle.mj_store.specs.Moves.{IsIdle, IsReady, Steps, Reaps, fronts_applied}
+use Rattle.mj_store.proofs.Names.{at_put}
+use Rattle.mj_store.proofs.Numbers.{append_has, append_last}
+use Rattle.mj_store.proofs.Rest.{tried_is, failed_is}
+use Rattle.mj_store.proofs.Paths.{kept_fronts}
+use Rattle.mj_facts.proofs.WhileServing.{in_before, in_last}
+use Rattle.mj_rank.specs.Flight.{HasAck, HasFailed, AreOut, HasCompleted}
 
-failed_idle : (n : ObjectName) (s : StoreState) → IsIdle n s → failed n s ≡ s
-failed_idle n s (inl none) = cond_both (s.objects n).blocked s (front_failed n s (s.objects n) (s.objects n).pending) (λ (t : StoreState). t ≡ s) (λ b. refl) (λ b. ap (front_failed n s (s.objects n)) none)
-failed_idle n s (inr blocked) = cond-true (s.objects n).blocked s (front_failed n s (s.objects n) (s.objects n).pending) blocked
+-- ---- what is to be reported
 
--- ---- nothing is pending
+ack_more : (op : ℕ) (acks : List Ack) (a : Ack) → HasAck op acks → HasAck op (acks ++ a ∷ [])
+ack_more op acks a h = record { ack = h.ack; among = in_before h.ack acks (a ∷ []) h.among; number = h.number }
 
-pub quiet_tried : (s : StoreState) (name : ObjectName) → Quiet s → Quiet (tried name s)
-quiet_tried s name q = subst Quiet (sym (quiet_still s q name)) q
+failed_more : (acks : List Ack) (a : Ack) → HasFailed acks → HasFailed (acks ++ a ∷ [])
+failed_more acks a h = record { ack = h.ack; among = in_before h.ack acks (a ∷ []) h.among; failed = h.failed }
 
-pub quiet_failed : (s : StoreState) (name : ObjectName) → Quiet s → Quiet (failed name s)
-quiet_failed s name q = subst Quiet (sym (failed_idle name s (inl (q.pending name)))) q
+not_done : true ≡ false → ⊥
+not_done e = absurd cc
 
--- ---- one operation is
+-- the first of them is reported
+failed_less : (acks : List Ack) (a : Ack) → acks ≡ a ∷ drop 1 acks → a.done ≡ true → HasFailed acks → HasFailed (drop 1 acks)
+failed_less acks a first done h = elim (subst (In h.ack) first h.among) [
+  | inl same ↦ absurd (not_done (sym done ∙ (ap (λ (x : Ack). x.done) same ∙ h.failed)))
+  | inr i ↦ record { ack = h.ack; among = i; failed = h.failed }
+]
 
-module _ (op : ObjectOp) (number : ℕ) (base : StoreState) (quiet : Quiet base) where
-  abbrev sent : StoreState
-  sent = submitted op number base
+ack_less : (op : ℕ) (acks : List Ack) (a : Ack) → acks ≡ a ∷ drop 1 acks → HasAck op acks → (op ≡ a.op) ⊎ HasAck op (drop 1 acks)
+ack_less op acks a first h = elim (subst (In h.ack) first h.among) [
+  | inl same ↦ inl (sym h.number ∙ ap (λ (x : Ack). x.op) (sym same))
+  | inr i ↦ inr (record { ack = h.ack; among = i; number = h.number })
+]
 
-  abbrev done : StoreState
-  done = tried op.name sent
+-- ---- through the events
 
-  abbrev not : StoreState
-  not = failed op.name sent
+abbrev Ops : Type 0
+Ops = List (ℕ × ObjectName)
 
-  is_done : Done op number base done
-  is_done = tried_done op number base quiet
+module _ (ops : Ops) (s : StoreState) (f : AreOut ops s) where
+  -- the first pending operation of an object is tried
+  module _ (name : ObjectName) (p : Pending) (ps : List Pending) (is : (s.objects name).pending ≡ p ∷ ps) where
+    abbrev done : Ack
+    done = record { op = p.op; done = true }
 
-  is_not : NotDone op number not
-  is_not = failed_not_done op number base quiet
+    abbrev not : Ack
+    not = record { op = p.op; done = false }
 
-  idle_other : (n : ObjectName) → n ≢ op.name → IsIdle n sent
-  idle_other n ne = elim (at_put base.objects op.name (with_op (base.objects op.name) number op.act) n) [
-    | inl same ↦ absurd (ne same.0)
-    | inr other ↦ inl (ap (λ (o : Object). o.pending) other.1 ∙ quiet.pending n)
-  ]
+    abbrev after : Object
+    after = record { held = applied p.act (s.objects name).held; pending = ps; blocked = false }
 
-  abbrev Come : StoreState → Type 0
-  Come s = (s ≡ sent) ⊎ ((s ≡ done) ⊎ (s ≡ not))
+    abbrev stuck : Object
+    stuck = record { held = (s.objects name).held; pending = p ∷ ps; blocked = true }
 
-  come_tried : (n : ObjectName) (s : StoreState) → Come s → Come (tried n s)
-  come_tried n s (inl e) = elim (fronts_sent op number base quiet (n ∷ [])) [
-    | inl same ↦ inl (ap (tried n) e ∙ same)
-    | inr next ↦ inr (inl (ap (tried n) e ∙ next))
-  ]
-  come_tried n s (inr (inl e)) = inr (inl (ap (tried n) e ∙ done_still op number base done is_done n))
-  come_tried n s (inr (inr e)) = inr (inr (ap (tried n) e ∙ not_done_still op number not is_not n))
+    first_or_later : (op : ℕ) → HasOp op (p ∷ ps) → HasOp op ps ⊎ HasAck op (s.completed ++ done ∷ [])
+    first_or_later op (inl e) = inr (record { ack = done; among = in_last done s.completed; number = e })
+    first_or_later op (inr h) = inl h
 
-  come_failed : (n : ObjectName) (s : StoreState) → Come s → Come (failed n s)
-  come_failed n s (inl e) = elim (cases_name n op.name) [
-    | inl same ↦ inr (inr (ap (failed n) e ∙ ap (λ k. failed k sent) same))
-    | inr other ↦ inl (ap (failed n) e ∙ failed_idle n sent (idle_other n other))
-  ]
-  come_failed n s (inr (inl e)) = inr (inl (ap (failed n) e ∙ failed_idle n done (inl (is_done.pending n))))
-  come_failed n s (inr (inr e)) = inr (inr (ap (failed n) e ∙ failed_idle n not (is_not.idle n)))
+    later : (op : ℕ × ObjectName) → HasOp op.0 (s.objects op.1).pending → HasOp op.0 (put s.objects name after op.1).pending ⊎ HasAck op.0 (s.completed ++ done ∷ [])
+    later op h = elim (at_put s.objects name after op.1) [
+      | inl here ↦ elim (first_or_later op.0 (subst (HasOp op.0) is (subst (λ (n : ObjectName). HasOp op.0 (s.objects n).pending) here.0 h))) [
+        | inl still ↦ inl (subst (λ (o : Object). HasOp op.0 o.pending) (sym here.1) still)
+        | inr acked ↦ inr acked
+      ]
+      | inr there ↦ inl (subst (λ (o : Object). HasOp op.0 o.pending) (sym there.1) h)
+    ]
 
-  no_acks : (a : Ack) (acks : List Ack) → [] ≡ a ∷ acks → ⊥
-  no_acks a acks e = absurd cc
+    free_after : (n : ObjectName) → (put s.objects name after n).blocked ≡ true → HasFailed (s.completed ++ done ∷ [])
+    free_after n b = elim (at_put s.objects name after n) [
+      | inl here ↦ absurd (not_done (sym b ∙ ap (λ (o : Object). o.blocked) here.1))
+      | inr there ↦ failed_more s.completed done (f.free n (ap (λ (o : Object). o.blocked) (sym there.1) ∙ b))
+    ]
 
-  one_ack : (a b : Ack) (acks : List Ack) → a ∷ [] ≡ b ∷ acks → a ≡ b
-  one_ack a b acks e = cc
+    out_done : AreOut ops (record { objects = put s.objects name after; completed = s.completed ++ done ∷ []; next = s.next })
+    out_done = record {
+      each = λ op i. elim (f.each op i) [ inl h ↦ later op h | inr h ↦ inr (ack_more op.0 s.completed done h) ];
+      free = free_after;
+    }
 
-  not_done : false ≡ true → ⊥
-  not_done e = absurd cc
+    kept : (op : ℕ × ObjectName) → HasOp op.0 (s.objects op.1).pending → HasOp op.0 (put s.objects name stuck op.1).pending
+    kept op h = elim (at_put s.objects name stuck op.1) [
+      | inl here ↦ subst (λ (o : Object). HasOp op.0 o.pending) (sym here.1) (subst (HasOp op.0) is (subst (λ (n : ObjectName). HasOp op.0 (s.objects n).pending) here.0 h))
+      | inr there ↦ subst (λ (o : Object). HasOp op.0 o.pending) (sym there.1) h
+    ]
 
-  -- it is reported as done: nothing is pending then
-  come_reported : (s : StoreState) (a : Ack) → s.completed ≡ a ∷ drop 1 s.completed → a.done ≡ true → Come s → Quiet (reported s)
-  come_reported s a first d (inl e) = absurd (no_acks a (drop 1 s.completed) (sym quiet.completed ∙ (sym (ap (λ (t : StoreState). t.completed) e) ∙ first)))
-  come_reported s a first d (inr (inl e)) = subst (λ t. Quiet (reported t)) (sym e) (record { pending = is_done.pending; free = is_done.free; completed = ap (drop 1) is_done.completed })
-  come_reported s a first d (inr (inr e)) =
-      let same : record { op = number; done = false } ≡ a = one_ack _ a (drop 1 s.completed) (sym is_not.completed ∙ (sym (ap (λ (t : StoreState). t.completed) e) ∙ first)) in
-      absurd (not_done (ap (λ (x : Ack). x.done) same ∙ d))
+    out_not : AreOut ops (record { objects = put s.objects name stuck; completed = s.completed ++ not ∷ []; next = s.next })
+    out_not = record {
+      each = λ op i. elim (f.each op i) [ inl h ↦ inl (kept op h) | inr h ↦ inr (ack_more op.0 s.completed not h) ];
+      free = λ n b. record { ack = not; among = in_last not s.completed; failed = refl };
+    }
 
-  done_completed : (t : StoreState) → t ≡ done → HasCompleted t
-  done_completed t e = subst HasCompleted (sym e) (record { ack = record { op = number; done = true }; rest = []; completed = is_done.completed })
+  by_done : (name : ObjectName) (ps : List Pending) → (s.objects name).pending ≡ ps → AreOut ops (front_done name s (s.objects name) ps)
+  by_done name [] is = f
+  by_done name (p ∷ ps) is = out_done name p ps is
 
-  not_completed : (t : StoreState) → t ≡ not → HasCompleted t
-  not_completed t e = subst HasCompleted (sym e) (record { ack = record { op = number; done = false }; rest = []; completed = is_not.completed })
+  by_failed : (name : ObjectName) (ps : List Pending) → (s.objects name).pending ≡ ps → AreOut ops (front_failed name s (s.objects name) ps)
+  by_failed name [] is = f
+  by_failed name (p ∷ ps) is = out_not name p ps is
 
-  has_completed : (t : StoreState) → (t ≡ done) ⊎ (t ≡ not) → HasCompleted t
-  has_completed t (inl e) = done_completed t e
-  has_completed t (inr e) = not_completed t e
+  pub out_tried : (name : ObjectName) → AreOut ops (tried name s)
+  out_tried name = cond_both (s.objects name).blocked s (front_done name s (s.objects name) (s.objects name).pending) (AreOut ops) (λ b. f) (λ b. by_done name (s.objects name).pending refl)
 
-  -- a step of its object completes it
-  come_steps : (name : ObjectName) (n : Option ℕ) (s : StoreState) (old new : Option StoreState) → name ≡ op.name → old ≡ Some s → Steps name n old new → Come s → Tells new HasCompleted
-  come_steps name n s old new same is steps (inl e) =
-      let t = stepped op number base quiet name n old new same (is ∙ ap (λ (u : StoreState). Some u) e) steps in
-      record { now = t.now; is = t.is; holds = has_completed t.now t.holds }
-  come_steps name n s old new same is steps (inr tried_once) =
-      let t = steps_keeps (λ u. (u ≡ done) ⊎ (u ≡ not)) name n
-      (λ k u h. elim h [ inl d ↦ inl (ap (tried k) d ∙ done_still op number base done is_done k) | inr d ↦ inr (ap (tried k) d ∙ not_done_still op number not is_not k) ])
-      (λ k u h. elim h [ inl d ↦ inl (ap (failed k) d ∙ failed_idle k done (inl (is_done.pending k))) | inr d ↦ inr (ap (failed k) d ∙ failed_idle k not (is_not.idle k)) ])
-      steps (record { now = s; is = is; holds = tried_once }) in
-      record { now = t.now; is = t.is; holds = has_completed t.now t.holds }
+  pub out_failed : (name : ObjectName) → AreOut ops (failed name s)
+  out_failed name = cond_both (s.objects name).blocked s (front_failed name s (s.objects name) (s.objects name).pending) (AreOut ops) (λ b. f) (λ b. by_failed name (s.objects name).pending refl)
 
-module _ (op : ObjectOp) (number : ℕ) (s : StoreState) (f : InFlight op number s) where
-  pub flight_tried : (name : ObjectName) → InFlight op number (tried name s)
-  flight_tried name = record { base = f.base; quiet = f.quiet; state = come_tried op number f.base f.quiet name s f.state }
+  -- one is reported as done, and the others are still out
+  pub out_reported : (a : Ack) (left : Ops) → s.completed ≡ a ∷ drop 1 s.completed → a.done ≡ true → ((op : ℕ × ObjectName) → In op left → In op ops × (op.0 ≡ a.op → ⊥)) → AreOut left (reported s)
+  out_reported a left first done less = record {
+    each = λ op i. let was = less op i in elim (f.each op was.0) [
+      | inl h ↦ inl h
+      | inr h ↦ elim (ack_less op.0 s.completed a first h) [ inl same ↦ absurd (was.1 same) | inr still ↦ inr still ]
+    ];
+    free = λ n b. failed_less s.completed a first done (f.free n b);
+  }
 
-  pub flight_failed : (name : ObjectName) → InFlight op number (failed name s)
-  flight_failed name = record { base = f.base; quiet = f.quiet; state = come_failed op number f.base f.quiet name s f.state }
+  -- one more is sent
+  pub out_sent : (op : ObjectOp) (number : ℕ) (more : Ops) → ((x : ℕ × ObjectName) → In x more → In x ops ⊎ (x ≡ (number, op.name))) → AreOut more (submitted op number s)
+  out_sent op number more each_is = record {
+    each = λ x i. elim (each_is x i) [
+      | inl was ↦ elim (f.each x was) [ inl h ↦ inl (longer x h) | inr h ↦ inr h ]
+      | inr new ↦ inl (subst (λ (y : ℕ × ObjectName). HasOp y.0 (put s.objects op.name sent y.1).pending) (sym new) last)
+    ];
+    free = λ n b. elim (at_put s.objects op.name sent n) [
+      | inl here ↦ f.free op.name (ap (λ (o : Object). o.blocked) (sym here.1) ∙ b)
+      | inr there ↦ f.free n (ap (λ (o : Object). o.blocked) (sym there.1) ∙ b)
+    ];
+  }
+    where
+      sent : Object
+      sent = with_op (s.objects op.name) number op.act
 
-  pub flight_reported : (a : Ack) → s.completed ≡ a ∷ drop 1 s.completed → a.done ≡ true → Quiet (reported s)
-  flight_reported a first d = come_reported op number f.base f.quiet s a first d f.state
+      longer : (x : ℕ × ObjectName) → HasOp x.0 (s.objects x.1).pending → HasOp x.0 (put s.objects op.name sent x.1).pending
+      longer x h = elim (at_put s.objects op.name sent x.1) [
+        | inl here ↦ subst (λ (o : Object). HasOp x.0 o.pending) (sym here.1) (append_has x.0 (s.objects op.name).pending _ (subst (λ (n : ObjectName). HasOp x.0 (s.objects n).pending) here.0 h))
+        | inr there ↦ subst (λ (o : Object). HasOp x.0 o.pending) (sym there.1) h
+      ]
 
-  pub flight_steps : (name : ObjectName) (n : Option ℕ) (old new : Option StoreState) → name ≡ op.name → old ≡ Some s → Steps name n old new → Tells new HasCompleted
-  flight_steps name n old new same is steps = come_steps op number f.base f.quiet name n s old new same is steps f.state
+      last : HasOp number (put s.objects op.name sent op.name).pending
+      last = elim (at_put s.objects op.name sent op.name) [
+        | inl here ↦ subst (λ (o : Object). HasOp number o.pending) (sym here.1) (append_last (s.objects op.name).pending (record { op = number; act = op.act }))
+        | inr there ↦ absurd (there.0 refl)
+      ]
 
-pub flight_sent : (op : ObjectOp) (number : ℕ) (s : StoreState) → Quiet s → InFlight op number (submitted op number s)
-flight_sent op number s q = record { base = s; quiet = q; state = inl refl }
-
--- ---- by the stage of a mount
-
-come_by_try : (stage : Stage) (v : MountValue) (s : StoreState) (name : ObjectName) → HasCome stage v s → HasCome stage v (tried name s)
-come_by_try Announcing v s name q = quiet_tried s name q
-come_by_try Announced v s name f = flight_tried (header_op v.number v.header) v.sent s f name
-come_by_try Opening v s name q = quiet_tried s name q
-come_by_try Opened v s name f = flight_tried (header_op v.number v.header) v.sent s f name
-come_by_try Ready v s name q = quiet_tried s name q
-
-come_by_failure : (stage : Stage) (v : MountValue) (s : StoreState) (name : ObjectName) → HasCome stage v s → HasCome stage v (failed name s)
-come_by_failure Announcing v s name q = quiet_failed s name q
-come_by_failure Announced v s name f = flight_failed (header_op v.number v.header) v.sent s f name
-come_by_failure Opening v s name q = quiet_failed s name q
-come_by_failure Opened v s name f = flight_failed (header_op v.number v.header) v.sent s f name
-come_by_failure Ready v s name q = quiet_failed s name q
-
-pub goes_tried : (v : MountValue) (s : StoreState) (name : ObjectName) → GoesOn v s → GoesOn v (tried name s)
-goes_tried v s name g = λ up. come_by_try v.stage v s name (g up)
-
-pub goes_failed : (v : MountValue) (s : StoreState) (name : ObjectName) → GoesOn v s → GoesOn v (failed name s)
-goes_failed v s name g = λ up. come_by_failure v.stage v s name (g up)
-
--- nothing is pending where nothing is awaited
-pub come_quiet : (stage : Stage) (v : MountValue) (s : StoreState) → AwaitsNone stage → HasCome stage v s → Quiet s
-come_quiet Announcing v s none q = q
-come_quiet Announced v s none f = absurd none
-come_quiet Opening v s none q = q
-come_quiet Opened v s none f = absurd none
-come_quiet Ready v s none q = q
-
-pub quiet_come : (stage : Stage) (v : MountValue) (s : StoreState) → AwaitsNone stage → Quiet s → HasCome stage v s
-quiet_come Announcing v s none q = q
-quiet_come Announced v s none q = absurd none
-quiet_come Opening v s none q = q
-quiet_come Opened v s none q = absurd none
-quiet_come Ready v s none q = q
-
--- and else the header
-pub come_flight : (stage : Stage) (v : MountValue) (s : StoreState) → AwaitsSent stage → HasCome stage v s → InFlight (header_op v.number v.header) v.sent s
-come_flight Announcing v s sends q = absurd sends
-come_flight Announced v s sends f = f
-come_flight Opening v s sends q = absurd sends
-come_flight Opened v s sends f = f
-come_flight Ready v s sends q = absurd sends
-
-pub flight_come : (stage : Stage) (v : MountValue) (s : StoreState) → AwaitsSent stage → InFlight (header_op v.number v.header) v.sent s → HasCome stage v s
-flight_come Announcing v s sends f = absurd sends
-flight_come Announced v s sends f = f
-flight_come Opening v s sends f = absurd sends
-flight_come Opened v s sends f = f
-flight_come Ready v s sends f = absurd sends
+-- nothing is sent yet
+pub none_out : (s : StoreState) → Quiet s → AreOut [] s
+none_out s q = record { each = λ op i. absurd i; free = λ n b. absurd (not_done (sym b ∙ q.free n)) }
 
 -- ---- what is completed stays until it is reported
 
-completed_more : (n : ObjectName) (s : StoreState) → HasCompleted s → HasCompleted (tried n s)
+some_ack : (a : Ack) (acks : List Ack) → In a acks → (s : StoreState) → s.completed ≡ acks → HasCompleted s
+some_ack a [] i s e = absurd i
+some_ack a (x ∷ xs) i s e = record { ack = x; rest = xs; completed = e }
+
+last_ack : (acks : List Ack) (a : Ack) (s : StoreState) → s.completed ≡ acks ++ a ∷ [] → HasCompleted s
+last_ack [] a s e = record { ack = a; rest = []; completed = e }
+last_ack (x ∷ xs) a s e = record { ack = x; rest = xs ++ a ∷ []; completed = e }
+
+pub completed_more : (n : ObjectName) (s : StoreState) → HasCompleted s → HasCompleted (tried n s)
 completed_more n s h = cond_both (s.objects n).blocked s (front_done n s (s.objects n) (s.objects n).pending) HasCompleted (λ b. h) (λ b. by_pending (s.objects n).pending)
   where
     by_pending : (ps : List Pending) → HasCompleted (front_done n s (s.objects n) ps)
     by_pending [] = h
     by_pending (p ∷ ps) = record { ack = h.ack; rest = h.rest ++ record { op = p.op; done = true } ∷ []; completed = ap (λ (acks : List Ack). acks ++ record { op = p.op; done = true } ∷ []) h.completed }
 
+-- fronts leave it
+pub completed_fronts : (fronts : List ObjectName) (s : StoreState) → HasCompleted s → HasCompleted (fronts_applied fronts s)
+completed_fronts fronts s h = kept_fronts HasCompleted (λ n u c. completed_more n u c) fronts s h
+
 -- so a mount does not wait then
 pub completed_taken : {old new : Option StoreState} → Reaps None old new → Tells old HasCompleted → ⊥
 completed_taken reaps t =
     let m = reaps t.now t.is in
-    let h : HasCompleted (fronts_applied m.fronts t.now) = kept_fronts HasCompleted (λ n s c. completed_more n s c) m.fronts t.now t.holds in
+    let h : HasCompleted (fronts_applied m.fronts t.now) = completed_fronts m.fronts t.now t.holds in
     none_first h.ack h.rest (sym m.found ∙ h.completed)
   where
     none_first : (a : Ack) (acks : List Ack) → [] ≡ a ∷ acks → ⊥
     none_first a acks e = absurd cc
+
+-- ---- a step of an object completes what is out there
+
+pub out_fronts : (ops : Ops) (fronts : List ObjectName) (s : StoreState) → AreOut ops s → AreOut ops (fronts_applied fronts s)
+out_fronts ops fronts s f = kept_fronts (AreOut ops) (λ n u c. out_tried ops u c n) fronts s f
+
+no_op : (op : ℕ) (ps : List Pending) → HasOp op ps → ps ≡ [] → ⊥
+no_op op [] h e = h
+no_op op (p ∷ ps) h e = absurd cc
+
+-- where it is idle, it was completed before
+idle_completed : (ops : Ops) (u : StoreState) → AreOut ops u → (op : ℕ × ObjectName) → In op ops → IsIdle op.1 u → HasCompleted u
+idle_completed ops u f op i (inr blocked) = let h = f.free op.1 blocked in some_ack h.ack u.completed h.among u refl
+idle_completed ops u f op i (inl none) = elim (f.each op i) [
+  | inl h ↦ absurd (no_op op.0 (u.objects op.1).pending h none)
+  | inr h ↦ some_ack h.ack u.completed h.among u refl
+]
+
+tried_completed : (u : StoreState) (name : ObjectName) (op : ℕ) → IsReady name op u → HasCompleted (tried name u)
+tried_completed u name op r = let e = tried_is u name _ _ r.free r.first in last_ack u.completed (record { op = op; done = true }) (tried name u) (ap (λ (t : StoreState). t.completed) e)
+
+failed_completed : (u : StoreState) (name : ObjectName) (op : ℕ) → IsReady name op u → HasCompleted (failed name u)
+failed_completed u name op r = let e = failed_is u name _ _ r.free r.first in last_ack u.completed (record { op = op; done = false }) (failed name u) (ap (λ (t : StoreState). t.completed) e)
+
+pub out_steps : (ops : Ops) (s : StoreState) → AreOut ops s → (op : ℕ × ObjectName) → In op ops → (n : Option ℕ) (old new : Option StoreState) → old ≡ Some s → Steps op.1 n old new → Tells new HasCompleted
+out_steps ops s f op i None old new is steps =
+    let w = steps s is in
+    record { now = fronts_applied w.fronts s; is = w.leads; holds = idle_completed ops (fronts_applied w.fronts s) (out_fronts ops w.fronts s f) op i w.found }
+out_steps ops s f op i (Some k) old new is steps = elim (steps s is) [
+  | inl w ↦ record { now = tried op.1 (fronts_applied w.fronts s); is = w.leads; holds = tried_completed (fronts_applied w.fronts s) op.1 k w.found }
+  | inr w ↦ record { now = failed op.1 (fronts_applied w.fronts s); is = w.leads; holds = failed_completed (fronts_applied w.fronts s) op.1 k w.found }
+]

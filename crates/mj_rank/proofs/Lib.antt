@@ -2,7 +2,7 @@ pub mod SinceLemmas
 pub mod Served
 pub mod SoundAfter
 pub mod Fitting
-pub mod Folds
+pub mod Out
 pub mod Requests
 pub mod StillReads
 pub mod Looked
@@ -16,9 +16,12 @@ pub mod Reaping
 pub mod Events
 pub mod Asking
 pub mod Living
+pub mod Flushing
+pub mod Appending
 pub mod Sending
 pub mod Stopping
 pub mod Flight
+pub mod Cuts
 pub mod MountLives
 pub mod FirstObjects
 pub mod FirstBytes
@@ -27,4 +30,6 @@ pub mod FirstMount
 pub mod Beginning
 pub mod Opening
 pub mod MountCalls
+pub mod MountSteps
+pub mod MountCuts
 pub mod FormattedRests

@@ -1,5 +1,5 @@
 -- The facts of a rank through its calls.
-use Rattle.std.proofs.Common.{◌≡◌, ℕ, ◌+◌, ◌<◌, ◌^◌, true, false, List, [], ◌∷◌, Option, Some, None, Result, Ok, Err, OnOk, OnErr, refl, sym, ap, subst, ◌∙◌, arith}
+use Rattle.std.proofs.Common.{◌≡◌, ℕ, ◌+◌, ◌-◌, ◌<◌, ◌≤◌, ◌^◌, true, false, List, [], ◌∷◌, Option, Some, None, Result, Ok, Err, OnOk, OnErr, refl, sym, ap, subst, ◌∙◌, arith}
 use Rattle.std.specs.Prelude.{IfOk, IsTrue, unwrap_or, nat_lt, if◌then◌else◌}
 use Rattle.std.proofs.lemmas.Bool.{cond_both, ltb-false}
 use Rattle.mj_base.specs.declared.object.ObjectName.{ObjectName}
@@ -18,7 +18,7 @@ use Rattle.mj_store.specs.declared.act.ObjectOp.{ObjectOp}
 use Rattle.mj_store.specs.declared.answer.Ack.{Ack}
 use Rattle.mj_store.specs.State.{StoreState, MayHold, tried, submitted}
 use Rattle.mj_store.specs.Events.{Goes, Tells}
-use Rattle.mj_store.specs.Moves.{Moves, Submits, Reaps, Steps}
+use Rattle.mj_store.specs.Moves.{Moves, Submits, Reaps, Steps, fronts_applied}
 use Rattle.mj_store.proofs.Paths.{stays_keeps, submits_keeps, reaps_keeps, steps_keeps, goes_submits, within_goes}
 use Rattle.mj_event.specs.declared.Event.{Event}
 use Rattle.mj_event.specs.Event.{event_bytes}
@@ -29,14 +29,19 @@ use Rattle.mj_delta.proofs.Decided.{meant}
 use Rattle.mj_rank.specs.declared.answers.Early.{Early}
 use Rattle.mj_rank.specs.declared.answers.Fault.{Fault}
 use Rattle.mj_entry.specs.Entry.{entry_length}
-use Rattle.mj_rank.specs.declared.log.AppendRefusal.TheVariants.{Full, Spent}
+use Rattle.mj_journaler.specs.declared.AppendRefusal.TheVariants.{Full, Spent}
+use Rattle.mj_journaler.specs.declared.sent.Offer.TheVariants.{Flush}
+use Rattle.mj_journaler.specs.Journal as stream
+use Rattle.mj_journaler.specs.Journal.{Journal, IsNew}
+use Rattle.mj_journaler.specs.Keeps.{MaySend}
+use Rattle.mj_journaler.specs.Calls.{append_refusal, offer_op, taken, acknowledged}
 use Rattle.mj_rank.specs.declared.rank.Rank.{Rank}
-use Rattle.mj_rank.specs.Log.{LogValue, log_value, flush_end, write_of, sent, acked, entry_end, log_end, append_refusal, unsafe_bytes, most_unsafe, last_position}
+use Rattle.mj_rank.specs.Log.{log_value, entry_end}
 use Rattle.mj_rank.specs.Journaled.{IsServedRequest, is_served, IsWritable, event_of}
 use Rattle.mj_rank.specs.Request.{RankValue, value_of, with_event, asked_once_more}
 use Rattle.mj_rank.specs.Live.{Recovers, Lives, RankLives, StopsSafely, after_early}
 use Rattle.mj_rank.proofs.Crashes.{lives_leave}
-use Rattle.mj_rank.proofs.Serving.{lives_tried, lives_failed, lives_reported, lives_wrote}
+use Rattle.mj_rank.proofs.Serving.{next_tried, lives_tried, lives_failed, lives_reported, lives_wrote}
 use Rattle.mj_rank.proofs.Reaping.{lives_acked}
 use Rattle.mj_rank.proofs.Events.{makes}
 use Rattle.mj_rank.proofs.Asking.{lives_answered, lives_journalled}
@@ -62,8 +67,13 @@ value_reported v m ack reaps t =
     reaps_keeps (LivesAt v m) (LivesAt v m) ack (λ x s k. tried_at v m x s k) (λ s first k. lives_reported v.number v.log v.tree v.root_version m s k) reaps t
 
 -- a log that is the same
-pub value_log : (v : RankValue) (m : LogMachine) (l : LogValue) {told : Option StoreState} → l ≡ v.log → Tells told (LivesAt v m) → Tells told (LivesAt (record v { log = l }) m)
-value_log v m l {told} e t = subst (λ (x : LogValue). Tells told (LivesAt (record v { log = x }) m)) (sym e) t
+pub value_log : (v : RankValue) (m : LogMachine) (l : Journal) {told : Option StoreState} → l ≡ v.log → Tells told (LivesAt v m) → Tells told (LivesAt (record v { log = l }) m)
+value_log v m l {told} e t = subst (λ (x : Journal). Tells told (LivesAt (record v { log = x }) m)) (sym e) t
+
+-- fronts that are applied take no number
+next_fronts : (names : List ObjectName) (s : StoreState) → (fronts_applied names s).next ≡ s.next
+next_fronts [] s = refl
+next_fronts (name ∷ names) s = next_fronts names (tried name s) ∙ next_tried name s
 
 -- ---- a rank
 
@@ -72,30 +82,41 @@ module _ {S : Type 0} (state : S → Option StoreState) (old : Rank S) (m : LogM
   pub rank_down : (new : Rank S) (v : RankValue) (fault : Option Fault) {mid : S} → new.store ≡ mid → value_of new ≡ record v { fault = fault } → Tells (state mid) (LivesAt v m) → RankLives state new m
   rank_down new v fault same e t = record { now = t.now; is = ap state same ∙ t.is; holds = subst (λ (x : RankValue). LivesAt x m t.now) (sym e) t.holds }
 
+  -- it has this value
+  pub rank_is : (new : Rank S) (v : RankValue) {mid : S} → new.store ≡ mid → value_of new ≡ v → Tells (state mid) (LivesAt v m) → RankLives state new m
+  rank_is new v same e t = record { now = t.now; is = ap state same ∙ t.is; holds = subst (λ (x : RankValue). LivesAt x m t.now) (sym e) t.holds }
+
   -- a write is sent
-  pub rank_wrote : (op to : ℕ) (w : ObjectOp) (l : LogValue) {told : Option StoreState} → to ≡ flush_end (log_value old.log) → old.log.flushed < to → w ≡ write_of (log_value old.log) to
-      → l ≡ sent op to (log_value old.log) → Submits w op (state old.store) told → RankLives state old m → Tells told (Lives old.number l (state_of old.tree) old.root_version m)
-  rank_wrote op to w l {told} end more is log submits t =
+  pub rank_wrote : (op to : ℕ) (w : ObjectOp) (l : Journal) {told : Option StoreState} → MaySend (log_value old.log) (Some (Flush to)) → w ≡ offer_op (log_value old.log) (Flush to)
+      → l ≡ taken op (Flush to) (log_value old.log) → Submits w op (state old.store) told → RankLives state old m → Tells told (Lives old.number l (state_of old.tree) old.root_version m)
+  rank_wrote op to w l {told} given is log submits t =
       let from = log_value old.log in
-      let v : RankValue = record (value_of old) { log = sent op to from } in
-      subst (λ (x : LogValue). Tells told (Lives old.number x (state_of old.tree) old.root_version m)) (sym log)
-      (submits_keeps (LivesAt (value_of old) m) (LivesAt v m) (write_of from to) op (λ n s k. tried_at (value_of old) m n s k)
-      (λ s next k. subst (λ (x : ℕ). Lives old.number (sent op x from) (state_of old.tree) old.root_version m (submitted (write_of from x) op s)) (sym end)
-      (lives_wrote old.number from (state_of old.tree) old.root_version m s op next (subst (λ (x : ℕ). old.log.flushed < x) end more) k))
+      let v : RankValue = record (value_of old) { log = taken op (Flush to) from } in
+      subst (λ (x : Journal). Tells told (Lives old.number x (state_of old.tree) old.root_version m)) (sym log)
+      (submits_keeps (LivesAt (value_of old) m) (LivesAt v m) (offer_op from (Flush to)) op (λ n s k. tried_at (value_of old) m n s k)
+      (λ s next k. lives_wrote old.number from (state_of old.tree) old.root_version m s op to next given k)
       (subst (λ (x : ObjectOp). Submits x op (state old.store) told) is submits) t)
 
+  -- its number is new
+  pub rank_numbers : (op : ℕ) (w : ObjectOp) {told : Option StoreState} → Submits w op (state old.store) told → RankLives state old m → IsNew op old.log
+  rank_numbers op w submits t =
+      let moved = submits t.now t.is in
+      let next : t.now.next ≤ op = subst (λ n. n ≤ op) (next_fronts moved.fronts t.now) moved.possible.0 in
+      let new = t.holds.newest in
+      record { sent = λ x i. omega (arith, next, new.sent x i); heads = λ x i. omega (arith, next, new.heads x i); removals = λ x i. omega (arith, next, new.removals x i) }
+
   -- one is acknowledged
-  pub rank_acked : (op : ℕ) (l : LogValue) (safe : ℕ) {told : Option StoreState} → l ≡ acked op (log_value old.log) → safe ≡ l.safe → Reaps (Some (record { op = op; done = true })) (state old.store) told
+  pub rank_acked : (op : ℕ) (l : Journal) (safe : ℕ) {told : Option StoreState} → l ≡ acknowledged op (log_value old.log) → safe ≡ l.safe → Reaps (Some (record { op = op; done = true })) (state old.store) told
       → RankLives state old m → Tells told (Lives old.number l (state_of old.tree) old.root_version (made_safe m safe))
   rank_acked op l safe {told} log at reaps t =
-      let to = acked op (log_value old.log) in
+      let to = acknowledged op (log_value old.log) in
       let v : RankValue = record (value_of old) { log = to } in
       let n = made_safe m to.safe in
       let done = reaps_keeps (LivesAt (value_of old) m) (LivesAt v n) (record { op = op; done = true }) (λ x s k. tried_at (value_of old) m x s k)
       (λ s first k. lives_acked old.number (log_value old.log) (state_of old.tree) old.root_version m s (record { op = op; done = true }) k first refl) reaps t in
-      let safe_is : to.safe ≡ safe = sym (at ∙ ap (λ (x : LogValue). x.safe) log) in
+      let safe_is : to.safe ≡ safe = sym (at ∙ ap (λ (x : Journal). x.safe) log) in
       subst (λ (x : ℕ). Tells told (Lives old.number l (state_of old.tree) old.root_version (made_safe m x))) safe_is
-      (subst (λ (x : LogValue). Tells told (Lives old.number x (state_of old.tree) old.root_version n)) (sym log) done)
+      (subst (λ (x : Journal). Tells told (Lives old.number x (state_of old.tree) old.root_version n)) (sym log) done)
 
   -- ---- what a stop may leave
 
@@ -106,14 +127,17 @@ module _ {S : Type 0} (state : S → Option StoreState) (old : Rank S) (m : LogM
   pub stops_down : (new : Rank S) {mid : S} → new.store ≡ mid → Goes (state old.store) [] (state mid) → RankLives state old m → StopsSafely old.number m (state old.store) (state new.store)
   stops_down new same goes t = subst (λ (x : S). StopsSafely old.number m (state old.store) (state x)) (sym same) (stops_by goes t)
 
-  pub stops_sending : (op to : ℕ) (w : ObjectOp) {told : Option StoreState} → to ≡ flush_end (log_value old.log) → old.log.flushed < to → w ≡ write_of (log_value old.log) to → Submits w op (state old.store) told
+  pub stops_is : (new : Rank S) {mid : S} → new.store ≡ mid → StopsSafely old.number m (state old.store) (state mid) → StopsSafely old.number m (state old.store) (state new.store)
+  stops_is new same h = subst (λ (x : S). StopsSafely old.number m (state old.store) (state x)) (sym same) h
+
+  pub stops_sending : (op to : ℕ) (w : ObjectOp) {told : Option StoreState} → MaySend (log_value old.log) (Some (Flush to)) → w ≡ offer_op (log_value old.log) (Flush to) → Submits w op (state old.store) told
       → RankLives state old m → StopsSafely old.number m (state old.store) told
-  stops_sending op to w end more is submits t =
+  stops_sending op to w given is submits t =
       let from = log_value old.log in
       within_goes (λ image. (s : PlainState) × Recovers old.number image s × IsFrontState m s) t.now t.is (goes_submits w op submits)
-      (λ image may. lives_leave old.number (sent t.now.next (flush_end from) from) (state_of old.tree) old.root_version m (submitted (write_of from (flush_end from)) t.now.next t.now)
-      (lives_wrote old.number from (state_of old.tree) old.root_version m t.now t.now.next (omega arith) (subst (λ (x : ℕ). old.log.flushed < x) end more) t.holds)
-      image (subst (λ (x : ObjectOp). MayHold t.now (x ∷ []) image) (is ∙ ap (write_of from) end) may))
+      (λ image may. lives_leave old.number (taken t.now.next (Flush to) from) (state_of old.tree) old.root_version m (submitted (offer_op from (Flush to)) t.now.next t.now)
+      (lives_wrote old.number from (state_of old.tree) old.root_version m t.now t.now.next to (omega arith) given t.holds)
+      image (subst (λ (x : ObjectOp). MayHold t.now (x ∷ []) image) is may))
 
 -- ---- a request
 
@@ -136,13 +160,13 @@ nothing_changes version s r served (Accepted i change) decided h =
     absurd cc
 
 -- what is appended without a refusal ends below the last position
-room_for : (l : LogValue) (payload : List ℕ) → append_refusal l payload ≡ None → entry_end l payload < 2 ^ 62
+room_for : (l : Journal) (payload : List ℕ) → append_refusal l payload ≡ None → entry_end l payload < 2 ^ 62
 room_for l payload h =
-    let late = if nat_lt last_position (entry_end l payload) then Some (Spent (log_end l)) else None in
-    cond_both (nat_lt most_unsafe (unsafe_bytes l + entry_length payload)) (Some (Full (unsafe_bytes l))) late (λ o. o ≡ None → entry_end l payload < 2 ^ 62)
+    let late = if nat_lt (2 ^ 62 - 1) (entry_end l payload) then Some (Spent (stream.end_of l)) else None in
+    cond_both (nat_lt 8388608 (stream.unsafe_of l + entry_length payload)) (Some (Full (stream.unsafe_of l))) late (λ o. o ≡ None → entry_end l payload < 2 ^ 62)
     (λ b e. absurd cc)
-    (λ b. cond_both (nat_lt last_position (entry_end l payload)) (Some (Spent (log_end l))) None (λ o. o ≡ None → entry_end l payload < 2 ^ 62)
-    (λ c e. absurd cc) (λ c e. omega (arith, ltb-false last_position (entry_end l payload) c)))
+    (λ b. cond_both (nat_lt (2 ^ 62 - 1) (entry_end l payload)) (Some (Spent (stream.end_of l))) None (λ o. o ≡ None → entry_end l payload < 2 ^ 62)
+    (λ c e. absurd cc) (λ c e. omega (arith, ltb-false (2 ^ 62 - 1) (entry_end l payload) c)))
     h
 
 module _ {S : Type 0} (state : S → Option StoreState) (old new : Rank S) (r : ClientRequest) (sent : IsSent r) (served : IsServedRequest r) (same : new.store ≡ old.store) where

@@ -1,6 +1,5 @@
 -- What a mount looks at, against what recovery says of it.
-use Rattle.std.proofs.Common.{◌≡◌, ℕ, ◌<◌, nat_le, ◌==◌, ◌&&◌, Bool, true, false, List, [], ◌∷◌, map, length, Option, Some, None, Result, refl, sym, ap, subst, ◌∙◌, arith}
-use Rattle.std.specs.Prelude.{if◌then◌else◌}
+use Rattle.std.proofs.Common.{◌≡◌, ℕ, ◌<◌, nat_le, ◌==◌, ◌&&◌, Bool, List, [], ◌∷◌, map, length, Option, Some, Result, refl, sym, ap, subst, ◌∙◌, arith}
 use Rattle.std.specs.List.{list_all, find}
 use Rattle.std.specs.Option.{option_map}
 use Rattle.std.specs.Cmp.{unsigned_ties}
@@ -23,7 +22,7 @@ use Rattle.mj_store.specs.Moves.{Moves, HasBytes, Still, bytes_from}
 use Rattle.mj_recovery.specs.Stream.{journal_object}
 use Rattle.mj_rank.specs.declared.found.Found.{Found}
 use Rattle.mj_rank.specs.declared.refusal.MountRefusal.{MountRefusal}
-use Rattle.mj_rank.specs.FirstPath.{first_path, first_path_in, is_clear_later, Finds, header_bytes_read, journal_bytes_read}
+use Rattle.mj_rank.specs.FirstPath.{first_path, first_path_in, Finds, header_bytes_read, journal_bytes_read}
 use Rattle.mj_rank.proofs.StillReads.{still_read}
 
 map_same : {A : Type 0} (xs : List A) → map (λ (x : A). x) xs ≡ xs
@@ -58,18 +57,10 @@ sound_if t b above few = few ∙ few_are t ∙ ap (λ a. a && list_all keeps_few
 
 module _ (rank : ℕ) (s : StoreState) (old mid next : Option StoreState) (m n : ObjectName) (header journal : List ℕ) (first : m ≡ journal_object rank 0) (second : n ≡ journal_object rank 1) (is : old ≡ Some s) (still : Still s)
     (a : Moves (HasBytes m 0 header_bytes_read header) [] old mid) (b : Moves (HasBytes n 0 journal_bytes_read journal) [] mid next) where
-  pub next_told : next ≡ Some s
-  next_told = (still_read (HasBytes n 0 journal_bytes_read journal) s mid next (still_read (HasBytes m 0 header_bytes_read header) s old mid is still a).1 still b).1
-
-  -- with nothing in the later objects
-  pub finds_told : (result : Result Found MountRefusal) → true ≡ is_clear_later rank s → Finds result (first_path rank header journal) → Finds result (first_path_in rank s)
-  finds_told result clear finds =
+  pub finds_told : (result : Result Found MountRefusal) → Finds result (first_path rank header journal) → Finds result (first_path_in rank s)
+  finds_told result finds =
       let one = still_read (HasBytes m 0 header_bytes_read header) s old mid is still a in
       let two = still_read (HasBytes n 0 journal_bytes_read journal) s mid next one.1 still b in
       let h = one.0 ∙ ap (λ (q : ObjectName). bytes_from 0 header_bytes_read (s.objects q).held) first in
       let j = two.0 ∙ ap (λ (q : ObjectName). bytes_from 0 journal_bytes_read (s.objects q).held) second in
-      subst (λ (p : Bool × List ℕ × List ℕ). Finds result (if p.0 then first_path rank p.1 p.2 else None)) (λ i. (clear i, h i, j i)) finds
-
-  -- with something
-  pub none_told : false ≡ is_clear_later rank s → first_path_in rank s ≡ None
-  none_told clear = λ i. if sym clear i then first_path rank (bytes_from 0 header_bytes_read (s.objects (journal_object rank 0)).held) (bytes_from 0 journal_bytes_read (s.objects (journal_object rank 1)).held) else None
+      subst (λ (p : List ℕ × List ℕ). Finds result (first_path rank p.0 p.1)) (λ i. (h i, j i)) finds

@@ -1,5 +1,5 @@
 -- A mount sends its headers, takes their acknowledgements, and becomes a rank that serves.
-use Rattle.std.proofs.Common.{◌≡◌, inl, inr, ℕ, ◌+◌, ◌≤◌, true, List, [], ◌∷◌, ◌++◌, length, drop, Option, Some, None, refl, sym, ap, subst, ◌∙◌, arith}
+use Rattle.std.proofs.Common.{◌≡◌, inl, inr, ℕ, ◌+◌, ◌^◌, ◌<◌, ◌≤◌, true, List, [], ◌∷◌, ◌++◌, length, drop, Some, None, refl, sym, ap, subst, ◌∙◌, arith}
 use Rattle.std.proofs.lemmas.List.{append-nil}
 use Rattle.std.specs.Prelude.{nat_lt}
 use Rattle.std.proofs.lemmas.Bool.{and_from, lt-ltb}
@@ -7,7 +7,6 @@ use Rattle.std.proofs.Math.Seq.{drop-append_seam}
 use Rattle.mj_maps.specs.Map.{get}
 use Rattle.mj_tree.specs.State.{PlainState, new_state, root}
 use Rattle.mj_tree.specs.Answer.{after}
-use Rattle.mj_store.specs.declared.answer.StoreFault.{StoreFault}
 use Rattle.mj_store.specs.State.{StoreState, submitted}
 use Rattle.mj_store.specs.Causes.{In}
 use Rattle.mj_layout.specs.declared.Header.{Header}
@@ -25,23 +24,28 @@ use Rattle.mj_facts.specs.Journalled.{Journalled, IsCarried, entry_of, size_of, 
 use Rattle.mj_facts.specs.Headers.{HeadSent, may_stand, newest, IsBounded}
 use Rattle.mj_facts.specs.Ranks as facts
 use Rattle.mj_facts.specs.Ranks.{safe_of, tail_of}
-use Rattle.mj_facts.specs.Mounts.{Mounts, serving}
+use Rattle.mj_facts.specs.Mounts.{Mounts, MountInOrder, serving}
 use Rattle.mj_facts.specs.Serves.{Serves}
 use Rattle.mj_facts.specs.Calls as calls
-use Rattle.mj_facts.specs.Calls.{appended, wanted_more, with_event, IsBuffer, MayAppend, entry_ends, MaySendHeader, mount_headed}
+use Rattle.mj_facts.specs.Calls.{appended, wanted_more, with_event, IsBuffer, MayAppend, entry_ends, MaySendHeader, mount_headed, with_head}
 use Rattle.mj_facts.proofs.Entries.{size_some, ends_append, ends_kept, place_last, place_above}
 use Rattle.mj_facts.proofs.Heads.{may_more}
 use Rattle.mj_facts.proofs.Few.{few_submitted}
 use Rattle.mj_facts.proofs.Uncommitted.{uncommitted_header}
 use Rattle.mj_facts.proofs.Computed.{may_append, buffer_event}
 use Rattle.mj_facts.proofs.WhileServing.{serves_appended}
-use Rattle.mj_facts.proofs.WhileMounting.{mounts_headed, mount_serves}
+use Rattle.mj_facts.proofs.WhileMounting.{mounts_headed, in_order, mount_serves}
 use Rattle.mj_rank.specs.declared.mounting.Stage.{Stage}
-use Rattle.mj_rank.specs.Log.{LogValue, log_end, entry_end}
+use Rattle.mj_journaler.specs.Journal as stream
+use Rattle.mj_journaler.specs.Journal.{Journal}
+use Rattle.mj_rank.specs.Cutting.{near_end, cuttings}
+use Rattle.mj_rank.specs.Log.{entry_end}
 use Rattle.mj_rank.specs.Mount.{subtree_map, empty_log, first_log}
 use Rattle.mj_rank.specs.Mounts.{MountValue, header_op}
 use Rattle.mj_rank.specs.History.{IsHistory}
-use Rattle.mj_rank.specs.Live.{IsNewStore, IsLogOf, Lives, Mounted}
+use Rattle.mj_rank.specs.Live.{IsNewStore, HasCut, IsLogOf, Lives, Mounted}
+use Rattle.mj_rank.proofs.Cuts.{near_below}
+use Rattle.mj_rank.proofs.MountLives.{mounted_with, cut_same}
 use Rattle.mj_rank.proofs.Members.{events_append}
 use Rattle.mj_rank.proofs.Turns.{all_events}
 
@@ -74,36 +78,20 @@ bounded_phased j count h phase b = record {
 }
 
 module _ (v : MountValue) (m : LogMachine) (s : StoreState) (k : Mounted v m s) where
-  -- nothing is said of how far the mount is
-  pub mounted_at : (stage : Stage) (sent : ℕ) (fault : Option StoreFault) → Mounted (record v { stage = stage; sent = sent; fault = fault }) m s
-  mounted_at stage sent fault = record {
-    facts = k.facts;
-    mounts = k.mounts;
-    in_order = k.in_order;
-    turns = k.turns;
-    history = k.history;
-    layout_is = k.layout_is;
-    tail_is = k.tail_is;
-    low = k.low;
-    tree_is = k.tree_is;
-    version_is = k.version_is;
-    log_is = k.log_is;
-    bounded = k.bounded;
-    from_start = k.from_start;
-    whole = k.whole;
-    new = k.new;
-  }
-
   pub mounted_phased : (phase : Phase) → Mounted (record v { header = record v.header { phase = phase } }) m s
   mounted_phased phase = record {
     facts = k.facts;
     mounts = k.mounts;
-    in_order = k.in_order;
+    first = k.first;
+    end_is = k.end_is;
+    seen = k.seen;
+    out_is = k.out_is;
+    cut = cut_same v.stage v (record v { header = record v.header { phase = phase } }) refl refl refl k.cut;
     turns = k.turns;
     history = k.history;
     layout_is = k.layout_is;
     tail_is = k.tail_is;
-    low = k.low;
+    fits = k.fits;
     tree_is = k.tree_is;
     version_is = k.version_is;
     log_is = k.log_is;
@@ -119,24 +107,15 @@ module _ (v : MountValue) (m : LogMachine) (s : StoreState) (k : Mounted v m s) 
     rises = omega (arith, k.whole (newest k.facts.stood k.facts.heads) (newest_in k.facts.stood k.facts.heads), k.from_start);
   }
 
-  pub mounted_headed : (op : ℕ) → s.next ≤ op → Mounted v m (submitted (header_op v.number v.header) op s)
-  mounted_headed op next = record {
-    facts = mount_headed op v.header k.facts;
-    mounts = subst (λ (n : ℕ). Mounts (mount_headed op v.header k.facts) (submitted (calls.header_op n v.header) op s)) k.history.number (mounts_headed k.facts s op v.header k.mounts next may_send);
-    in_order = record { acked = k.in_order.acked; cut = k.in_order.cut };
-    turns = k.turns;
-    history = k.history;
-    layout_is = k.layout_is;
-    tail_is = k.tail_is;
-    low = k.low;
-    tree_is = k.tree_is;
-    version_is = k.version_is;
-    log_is = k.log_is;
-    bounded = k.bounded;
-    from_start = k.from_start;
-    whole = λ h i. elim (may_more k.facts.stood k.facts.heads (record { op = op; header = v.header }) h i) [ inl old ↦ k.whole h old | inr same ↦ ap (λ (x : Header). x.expire) (sym same) ∙ k.from_start ];
-    new = new_headed v.number s op v.header k.new;
-  }
+  -- its header is sent, and it goes on to another stage
+  pub mounted_headed : (op next : ℕ) (stage : Stage) → s.next ≤ op → 1 ≤ next → ((index : ℕ) → index < next → index < v.next) → HasCut stage (record v { stage = stage; sent = op; next = next })
+      → Mounted (record v { stage = stage; sent = op; next = next }) m (submitted (header_op v.number v.header) op s)
+  mounted_headed op next stage fresh first before has =
+      mounted_with v m s k (with_head op v.header k.facts.heads) k.facts.cut k.facts.out (submitted (header_op v.number v.header) op s) stage op next v.out v.fault
+      (subst (λ (n : ℕ). Mounts (mount_headed op v.header k.facts) (submitted (calls.header_op n v.header) op s)) k.history.number (mounts_headed k.facts s op v.header k.mounts fresh may_send))
+      first (λ index near less. k.seen index near (before index less)) k.out_is has
+      (λ h i. elim (may_more k.facts.stood k.facts.heads (record { op = op; header = v.header }) h i) [ inl old ↦ k.whole h old | inr same ↦ ap (λ (x : Header). x.expire) (sym same) ∙ k.from_start ])
+      (new_headed v.number s op v.header k.new)
 
 -- ---- the rank begins
 
@@ -153,15 +132,19 @@ map_size : (rank : ℕ) → size_of (subtree_map rank) ≡ 44
 unfolding size_of
 map_size rank = refl
 
-module _ (v : MountValue) (m : LogMachine) (s : StoreState) (k : Mounted v m s) where
+module _ (v : MountValue) (m : LogMachine) (s : StoreState) (k : Mounted v m s) (ready : (v.out ≡ []) × (v.next ≡ v.end)) where
   abbrev j : Journalled
   j = k.facts.journal
 
   abbrev e : Event
   e = subtree_map v.number
 
-  abbrev l : LogValue
-  l = first_log v.found.layout v.number v.tail
+  -- nothing is appended yet
+  abbrev empty : Journal
+  empty = empty_log v.found v.number v.tail
+
+  abbrev l : Journal
+  l = first_log v.found v.number v.tail
 
   carried : IsCarried e
   carried = map_carried v.number k.history.small
@@ -169,11 +152,25 @@ module _ (v : MountValue) (m : LogMachine) (s : StoreState) (k : Mounted v m s) 
   abbrev rank_facts : facts.Rank
   rank_facts = serving k.facts
 
+  -- every object near the tail was seen to
+  ordered : MountInOrder k.facts
+  ordered = in_order k.facts k.mounts.journalled.layout (k.out_is ∙ ap cuttings ready.0) (λ index near. k.seen index near (below index (near_below k.facts index k.mounts.journalled.layout near)))
+    where
+      end_here : near_end j.layout (tail_of k.facts) ≡ v.next
+      end_here = sym (λ i. near_end (k.layout_is i) (k.tail_is i)) ∙ (sym k.end_is ∙ sym ready.1)
+
+      below : (index : ℕ) → index < near_end j.layout (tail_of k.facts) → index < v.next
+      below index less = subst (λ (n : ℕ). index < n) end_here less
+
   serves : Serves rank_facts s
-  serves = mount_serves k.facts s k.mounts k.in_order
+  serves = mount_serves k.facts s k.mounts ordered
 
   end_is : end_of j ≡ v.tail
   end_is = sym (k.tail_is ∙ place_last j (length j.events) (omega arith))
+
+  room : end_of j + size_of e < 2 ^ 62
+  unfolding size_of
+  room = omega (arith, end_is, k.fits)
 
   abbrev want : ℕ → ℕ
   want = wanted_more j.want (end_of j) (entry_of (end_of j) e)
@@ -182,7 +179,7 @@ module _ (v : MountValue) (m : LogMachine) (s : StoreState) (k : Mounted v m s) 
   facts_after = appended (e ∷ []) want rank_facts
 
   may : MayAppend rank_facts (e ∷ []) want
-  may = may_append rank_facts s e serves carried (omega (arith, end_is, k.low, map_size v.number)) (λ h i same. refl)
+  may = may_append rank_facts s e serves carried room (λ h i same. refl)
 
   abbrev newer : List Turn
   newer = (e, None) ∷ []
@@ -202,26 +199,27 @@ module _ (v : MountValue) (m : LogMachine) (s : StoreState) (k : Mounted v m s) 
   log_opened : IsLogOf v.number l facts_after
   unfolding entry_of size_of
   log_opened =
-      let end : log_end (empty_log v.found.layout v.number v.tail) ≡ end_of j = omega (arith, end_is) in
+      let end : stream.end_of empty ≡ end_of j = omega (arith, end_is) in
       let safe : safe_of facts_after ≡ v.tail = ends_kept j.start j.events (e ∷ []) (length j.events) (omega arith) ∙ sym k.tail_is in
       let left : drop (length j.events) (j.events ++ e ∷ []) ≡ e ∷ [] = drop-append_seam j.events (e ∷ []) in
-      let last : entry_end (empty_log v.found.layout v.number v.tail) (event_bytes e) ≡ v.tail + size_of e = omega arith in
-      let empty : IsBuffer j (tail_of k.facts) [] = record { wants = λ i less. absurd (omega (arith, less)); ends = omega (arith, end_is, k.tail_is) } in
+      let last : entry_end empty (event_bytes e) ≡ v.tail + size_of e = omega arith in
+      let none : IsBuffer j (tail_of k.facts) [] = record { wants = λ i less. absurd (omega (arith, less)); ends = omega (arith, end_is, k.tail_is) } in
       record {
+        number = refl;
         layout = k.layout_is;
-        ino = refl;
         safe = sym safe;
         flushed = k.tail_is;
-        buffer = subst (λ (n : ℕ). IsBuffer (with_event e j) (tail_of k.facts) ([] ++ entry_bytes n (event_bytes e))) (sym end) (buffer_event j e (tail_of k.facts) [] empty);
+        buffer = subst (λ (n : ℕ). IsBuffer (with_event e j) (tail_of k.facts) ([] ++ entry_bytes n (event_bytes e))) (sym end) (buffer_event j e (tail_of k.facts) [] none);
         ends = (λ z. last z ∷ []) ∙ sym (λ z. entry_ends (safe z) (left z));
         writes = refl;
       }
 
   pub lives_opened : Lives v.number v.log v.tree v.root_version m s
-  lives_opened = subst (λ (x : LogValue). Lives v.number x v.tree v.root_version m s) (sym k.log_is) (record {
+  lives_opened = subst (λ (x : Journal). Lives v.number x v.tree v.root_version m s) (sym k.log_is) (record {
     facts = facts_after;
     serves = serves_appended rank_facts s (e ∷ []) want serves may;
     log = log_opened;
+    newest = record { sent = λ w i. absurd i; heads = λ w i. absurd i; removals = λ w i. absurd i };
     older = k.turns;
     newer = newer;
     history = history;

@@ -1,6 +1,5 @@
 -- What a rank that serves keeps through each event of its store.
-use Rattle.std.proofs.Common.{◌≡◌, ℕ, ◌+◌, ◌-◌, ◌*◌, ◌<◌, ◌≤◌, List, [], ◌∷◌, ◌++◌, take, drop, refl, sym, ap, subst, ◌∙◌, arith}
-use Rattle.std.specs.Prelude.{min, nat_le}
+use Rattle.std.proofs.Common.{◌≡◌, inl, inr, ℕ, ◌+◌, ◌-◌, ◌<◌, ◌≤◌, List, [], ◌∷◌, ◌++◌, take, drop, Some, refl, sym, ap, subst, ◌∙◌, arith}
 use Rattle.std.proofs.lemmas.Bool.{cond_both}
 use Rattle.mj_base.specs.ObjectName.{journal_ino}
 use Rattle.mj_base.specs.declared.object.ObjectName.{ObjectName}
@@ -8,7 +7,8 @@ use Rattle.mj_base.specs.declared.object.ObjectName.TheVariants.{File}
 use Rattle.mj_tree.specs.State.{PlainState}
 use Rattle.mj_store.specs.declared.act.ObjectAct.TheVariants.{Write}
 use Rattle.mj_store.specs.declared.act.ObjectOp.{ObjectOp}
-use Rattle.mj_store.specs.State.{StoreState, submitted, tried, failed, reported}
+use Rattle.mj_store.specs.State.{StoreState, Object, Pending, submitted, tried, failed, reported, front_done, front_failed}
+use Rattle.mj_store.specs.Causes.{In}
 use Rattle.mj_store.proofs.Always.{always_tried, always_failed, always_reported}
 use Rattle.mj_layout.specs.Striping.{period}
 use Rattle.mj_layout.specs.Place.{object_of, offset_of, unit_end}
@@ -25,9 +25,14 @@ use Rattle.mj_facts.proofs.Few.{few_submitted}
 use Rattle.mj_facts.proofs.Uncommitted.{uncommitted_journal}
 use Rattle.mj_facts.proofs.Computed.{may_write, buffer_sent}
 use Rattle.mj_facts.proofs.WhileServing.{serves_tried, serves_failed, serves_reported, serves_wrote}
-use Rattle.mj_rank.specs.declared.log.Write as log
-use Rattle.mj_rank.specs.Log.{LogValue, log_end, flush_end, write_of, sent}
-use Rattle.mj_rank.specs.Live.{IsNewStore, Lives, of_writes, of_sent}
+use Rattle.mj_journaler.specs.Journal as stream
+use Rattle.mj_journaler.specs.Journal.{Journal, IsNew, layout_of}
+use Rattle.mj_journaler.specs.Keeps.{MaySend}
+use Rattle.mj_journaler.specs.Calls.{offer_op, taken}
+use Rattle.mj_journaler.specs.declared.sent.Offer.TheVariants.{Flush}
+use Rattle.mj_journaler.specs.declared.sent.Sent as journaler
+use Rattle.mj_journaler.proofs.Kept.{in_more}
+use Rattle.mj_rank.specs.Live.{IsNewStore, Lives, as_write, writes_of}
 
 -- ---- the objects that are none of the journal
 
@@ -71,9 +76,24 @@ new_written rank s number w index e one n =
 
 -- ---- what the store does by itself
 
-module _ (rank : ℕ) (l : LogValue) (tree : PlainState) (version : ℕ) (m : LogMachine) (s : StoreState) (k : Lives rank l tree version m s) where
-  lives_in : (t : StoreState) → Serves k.facts t → IsNewStore rank t → Lives rank l tree version m t
-  lives_in t serves new = record {
+front_next : (name : ObjectName) (s : StoreState) (o : Object) (ps : List Pending) → (front_done name s o ps).next ≡ s.next
+front_next name s o [] = refl
+front_next name s o (p ∷ ps) = refl
+
+failed_next : (name : ObjectName) (s : StoreState) (o : Object) (ps : List Pending) → (front_failed name s o ps).next ≡ s.next
+failed_next name s o [] = refl
+failed_next name s o (p ∷ ps) = refl
+
+pub next_tried : (name : ObjectName) (s : StoreState) → (tried name s).next ≡ s.next
+next_tried name s = let o = s.objects name in cond_both o.blocked s (front_done name s o o.pending) (λ (t : StoreState). t.next ≡ s.next) (λ b. refl) (λ b. front_next name s o o.pending)
+
+next_failed : (name : ObjectName) (s : StoreState) → (failed name s).next ≡ s.next
+next_failed name s = let o = s.objects name in cond_both o.blocked s (front_failed name s o o.pending) (λ (t : StoreState). t.next ≡ s.next) (λ b. refl) (λ b. failed_next name s o o.pending)
+
+module _ (rank : ℕ) (l : Journal) (tree : PlainState) (version : ℕ) (m : LogMachine) (s : StoreState) (k : Lives rank l tree version m s) where
+  lives_in : (t : StoreState) → t.next ≡ s.next → Serves k.facts t → IsNewStore rank t → Lives rank l tree version m t
+  lives_in t next serves new = record {
+    newest = subst (λ n. IsNew n l) (sym next) k.newest;
     facts = k.facts;
     serves = serves;
     log = k.log;
@@ -89,72 +109,62 @@ module _ (rank : ℕ) (l : LogValue) (tree : PlainState) (version : ℕ) (m : Lo
   }
 
   pub lives_tried : (name : ObjectName) → Lives rank l tree version m (tried name s)
-  lives_tried name = lives_in (tried name s) (serves_tried k.facts s name k.serves) (new_tried rank s name k.new)
+  lives_tried name = lives_in (tried name s) (next_tried name s) (serves_tried k.facts s name k.serves) (new_tried rank s name k.new)
 
   pub lives_failed : (name : ObjectName) → Lives rank l tree version m (failed name s)
-  lives_failed name = lives_in (failed name s) (serves_failed k.facts s name k.serves) (new_failed rank s name k.new)
+  lives_failed name = lives_in (failed name s) (next_failed name s) (serves_failed k.facts s name k.serves) (new_failed rank s name k.new)
 
   pub lives_reported : Lives rank l tree version m (reported s)
-  lives_reported = lives_in (reported s) (serves_reported k.facts s k.serves) (new_reported rank s k.new)
+  lives_reported = lives_in (reported s) refl (serves_reported k.facts s k.serves) (new_reported rank s k.new)
 
 -- ---- a write of the stream
 
-record Sends (l : LogValue) : Type 0 where
-  entries : flush_end l ≤ log_end l
-  unit : flush_end l ≤ unit_end l.layout l.flushed
-  window : flush_end l ≤ l.safe + 4 * period l.layout
+writes_last : (ws : List journaler.Sent) (w : journaler.Sent) → writes_of (ws ++ w ∷ []) ≡ writes_of ws ++ as_write w ∷ []
+writes_last [] w = refl
+writes_last (x ∷ ws) w = ap (λ (vs : List Sent). as_write x ∷ vs) (writes_last ws w)
 
-sends : (l : LogValue) → l.flushed < flush_end l → Sends l
-sends l h =
-    let to = min (log_end l) (l.safe + 4 * period l.layout) in
-    let bounds : (flush_end l ≤ to) × (flush_end l ≤ unit_end l.layout l.flushed) =
-    cond_both (nat_le to l.flushed) l.flushed (min to (unit_end l.layout l.flushed)) (λ n. l.flushed < n → (n ≤ to) × (n ≤ unit_end l.layout l.flushed))
-    (λ b more. absurd (omega (arith, more))) (λ b more. (omega arith, omega arith)) h in
-    record { entries = omega (arith, bounds.0); unit = bounds.1; window = omega (arith, bounds.0) }
+-- a number that is sent is below the next one
+below_next : (ws : List journaler.Sent) (next op : ℕ) → next ≤ op → ((w : journaler.Sent) → In w ws → w.op < next) → (w : journaler.Sent) → In w ws → w.op < op + 1
+below_next ws next op h each w i = omega (arith, h, each w i)
 
-writes_more : (ws : List log.Write) (vs : List Sent) (w : log.Write) (v : Sent) → of_writes ws ≡ of_sent vs → w.op ≡ v.op → w.from ≡ v.from → of_writes (ws ++ w ∷ []) ≡ of_sent (vs ++ v ∷ [])
-writes_more ws vs w v e op from = writes_last ws w ∙ ((λ z. e z ++ (op z, from z) ∷ []) ∙ sym (sent_last vs v))
-  where
-    writes_last : (ws : List log.Write) (w : log.Write) → of_writes (ws ++ w ∷ []) ≡ of_writes ws ++ (w.op, w.from) ∷ []
-    writes_last [] w = refl
-    writes_last (x ∷ ws) w = ap (λ (ps : List (ℕ × ℕ)). (x.op, x.from) ∷ ps) (writes_last ws w)
-
-    sent_last : (vs : List Sent) (v : Sent) → of_sent (vs ++ v ∷ []) ≡ of_sent vs ++ (v.op, v.from) ∷ []
-    sent_last [] v = refl
-    sent_last (x ∷ vs) v = ap (λ (ps : List (ℕ × ℕ)). (x.op, x.from) ∷ ps) (sent_last vs v)
-
-pub lives_wrote : (rank : ℕ) (l : LogValue) (tree : PlainState) (version : ℕ) (m : LogMachine) (s : StoreState) (op : ℕ) → s.next ≤ op → l.flushed < flush_end l
-    → Lives rank l tree version m s → Lives rank (sent op (flush_end l) l) tree version m (submitted (write_of l (flush_end l)) op s)
-lives_wrote rank l tree version m s op next more k =
+pub lives_wrote : (rank : ℕ) (l : Journal) (tree : PlainState) (version : ℕ) (m : LogMachine) (s : StoreState) (op to : ℕ) → s.next ≤ op → MaySend l (Some (Flush to))
+    → Lives rank l tree version m s → Lives rank (taken op (Flush to) l) tree version m (submitted (offer_op l (Flush to)) op s)
+lives_wrote rank l tree version m s op to next given k =
     let r = k.facts in
     let j = r.journal in
-    let to = flush_end l in
-    let b = sends l more in
-    let lay : l.layout ≡ j.layout = k.log.layout in
-    let ends_at : log_end l ≡ end_of j = omega (arith, k.log.flushed, k.log.buffer.ends) in
-    let bytes = take (to - r.flushed) l.bytes in
-    let unit : unit_end l.layout l.flushed ≡ unit_end j.layout r.flushed = λ z. unit_end (lay z) (k.log.flushed z) in
-    let may : MayWrite r to bytes = may_write r s l.bytes to k.serves k.log.buffer (omega (arith, more, k.log.flushed)) (omega (arith, b.entries, ends_at)) (omega (arith, b.unit, unit))
-    (omega (arith, b.window, k.log.safe, ap period lay)) in
-    let ino : l.ino ≡ journal_ino j.rank = k.log.ino ∙ ap journal_ino (sym k.history.number) in
-    let same : write_op r bytes ≡ write_of l to = λ z. record {
-      name = File (sym ino z) (object_of (sym lay z) (sym k.log.flushed z));
-      act = Write (offset_of (sym lay z) (sym k.log.flushed z)) (take (to - sym k.log.flushed z) l.bytes);
+    let more : l.flushed < to = given.0 in
+    let lay : layout_of l ≡ j.layout = k.log.layout in
+    let ends_at : stream.end_of l ≡ end_of j = omega (arith, k.log.flushed, k.log.buffer.ends) in
+    let bytes = take (to - r.flushed) l.buffer in
+    let unit : unit_end (layout_of l) l.flushed ≡ unit_end j.layout r.flushed = λ z. unit_end (lay z) (k.log.flushed z) in
+    let entries : to ≤ end_of j = omega (arith, given.1, ends_at) in
+    let may : MayWrite r to bytes = may_write r s l.buffer to k.serves k.log.buffer (omega (arith, more, k.log.flushed)) entries (omega (arith, given.1, unit))
+    (omega (arith, given.1, k.log.safe, ap period lay)) in
+    let number : j.rank ≡ l.rank = k.history.number ∙ sym k.log.number in
+    let same : write_op r bytes ≡ offer_op l (Flush to) = λ z. record {
+      name = File (journal_ino (number z)) (object_of (sym lay z) (sym k.log.flushed z));
+      act = Write (offset_of (sym lay z) (sym k.log.flushed z)) (take (to - sym k.log.flushed z) l.buffer);
     } in
-    let one : 1 ≤ object_of l.layout l.flushed =
+    let one : 1 ≤ object_of (layout_of l) l.flushed =
     subst (λ n. 1 ≤ n) (λ z. object_of (sym lay z) (sym k.log.flushed z))
     ((placing j.layout k.serves.journalled.layout).first r.flushed (omega (arith, k.serves.journalled.aligned, place_above j r.count, k.serves.covers))) in
+    let w : journaler.Sent = record { op = op; from = l.flushed; to = to } in
     record {
       facts = flushed_to op to r;
       serves = subst (λ (w : ObjectOp). Serves (flushed_to op to r) (submitted w op s)) same (serves_wrote r s op to bytes k.serves next may);
       log = record {
+        number = k.log.number;
         layout = lay;
-        ino = k.log.ino;
         safe = k.log.safe;
         flushed = refl;
-        buffer = subst (λ n. IsBuffer j to (drop (to - n) l.bytes)) (sym k.log.flushed) (buffer_sent j r.flushed l.bytes to k.log.buffer (omega (arith, more, k.log.flushed)) (omega (arith, b.entries, ends_at)));
+        buffer = subst (λ n. IsBuffer j to (drop (to - n) l.buffer)) (sym k.log.flushed) (buffer_sent j r.flushed l.buffer to k.log.buffer (omega (arith, more, k.log.flushed)) entries);
         ends = k.log.ends;
-        writes = writes_more l.writes r.sent (record { op = op; name = File l.ino (object_of l.layout l.flushed); from = l.flushed }) (record { op = op; from = r.flushed; to = to }) k.log.writes refl k.log.flushed;
+        writes = (λ z. k.log.writes z ++ record { op = op; from = sym k.log.flushed z; to = to } ∷ []) ∙ sym (writes_last l.sent w);
+      };
+      newest = record {
+        sent = λ v i. elim (in_more l.sent w v i) [ inl old ↦ below_next l.sent s.next op next k.newest.sent v old | inr new ↦ omega (arith, ap (λ (x : journaler.Sent). x.op) new) ];
+        heads = below_next l.heads s.next op next k.newest.heads;
+        removals = below_next l.removals s.next op next k.newest.removals;
       };
       older = k.older;
       newer = k.newer;
@@ -164,5 +174,5 @@ lives_wrote rank l tree version m s op next more k =
       version_is = k.version_is;
       whole = k.whole;
       begun = k.begun;
-      new = new_written rank s op (write_of l to) (object_of l.layout l.flushed) (ap (λ (i : ℕ). File i (object_of l.layout l.flushed)) k.log.ino) one k.new;
+      new = new_written rank s op (offer_op l (Flush to)) (object_of (layout_of l) l.flushed) (ap (λ n. File (journal_ino n) (object_of (layout_of l) l.flushed)) k.log.number) one k.new;
     }

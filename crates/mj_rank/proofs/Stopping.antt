@@ -25,7 +25,8 @@ use Rattle.mj_facts.proofs.Recovers.{rests_front}
 use Rattle.mj_facts.proofs.Uncommitted.{uncommitted_begins, uncommitted_elsewhere, uncommitted_keys}
 use Rattle.mj_facts.proofs.WhileServing.{serves_rests}
 use Rattle.mj_rank.specs.declared.rank.Rank.{Rank}
-use Rattle.mj_rank.specs.Log.{LogValue, log_value}
+use Rattle.mj_journaler.specs.Journal.{Journal}
+use Rattle.mj_rank.specs.Log.{log_value}
 use Rattle.mj_rank.specs.Live.{LeavesFronts, IsNewStore, Lives, RankLives, Rested, StopLives, StopsSafely}
 use Rattle.mj_rank.proofs.Crashes.{front_recovers}
 use Rattle.mj_rank.proofs.Serving.{lives_tried}
@@ -63,7 +64,7 @@ new_rests rank s image n im = record {
   few = few_rest n.names image s (λ name none. (always_image (IsAbsentBut n.names) s image n.few im name).1.absent none);
 }
 
-pub lives_stopped : (rank : ℕ) (l : LogValue) (tree : PlainState) (version : ℕ) (m : LogMachine) (s : StoreState) (image : Contents) → IsImage s image → Lives rank l tree version m s → Rested rank m (at_rest image s)
+pub lives_stopped : (rank : ℕ) (l : Journal) (tree : PlainState) (version : ℕ) (m : LogMachine) (s : StoreState) (image : Contents) → IsImage s image → Lives rank l tree version m s → Rested rank m (at_rest image s)
 lives_stopped rank l tree version m s image im k =
     let r = serves_rests k.facts s image k.serves im in
     record {

@@ -1,5 +1,5 @@
--- What a mount finds on the first path: nothing but a new store's objects and one object of the journal, with nothing in those behind it.
-use Rattle.std.specs.Prelude.{◌≡◌, ℕ, ◌+◌, Bool, true, false, not, ◌&&◌, ◌==◌, nat_lt, List, [], ◌∷◌, length, if◌then◌else◌, Option, None, Some, option_map, unwrap_or, Result, Ok, Err}
+-- What a mount finds on the first path: nothing but a new store's objects and one object of the journal.
+use Rattle.std.specs.Prelude.{◌≡◌, ℕ, ◌+◌, Bool, true, false, ◌&&◌, ◌==◌, nat_lt, List, [], ◌∷◌, length, if◌then◌else◌, Option, None, Some, unwrap_or, Result, Ok, Err}
 use Rattle.std.specs.List.{list_all}
 use Rattle.mj_base.specs.Reading.{eight}
 use Rattle.mj_base.specs.ObjectName.{stray_ino, first_ino}
@@ -9,7 +9,6 @@ use Rattle.mj_base.specs.declared.damage.Damage.{Damage}
 use Rattle.mj_base.specs.declared.damage.Damage.TheVariants.{Unbuilt}
 use Rattle.mj_maps.specs.Map.{get}
 use Rattle.mj_store.specs.declared.held.HeldObject.{HeldObject}
-use Rattle.mj_store.specs.Object.{Content}
 use Rattle.mj_store.specs.State.{StoreState}
 use Rattle.mj_store.specs.Moves.{bytes_from}
 use Rattle.mj_layout.specs.Striping.{Striping}
@@ -144,18 +143,5 @@ header_bytes_read = 70
 abbrev pub journal_bytes_read : ℕ
 journal_bytes_read = 1805696
 
--- Where a journal ends in its first object, a write that was out at a stop may lie in one of these.
-abbrev pub later_objects : List ℕ
-later_objects = 2 ∷ 3 ∷ 4 ∷ 5 ∷ []
-
-abbrev pub has_bytes : ℕ → StoreState → ℕ → Bool
-has_bytes rank s index = nat_lt 0 (unwrap_or (option_map (λ (c : Content). length c.bytes) (s.objects (journal_object rank index)).held) 0)
-
--- nothing lies in the later objects of the window
-abbrev pub is_clear_later : ℕ → StoreState → Bool
-is_clear_later rank s = list_all (λ index. not (has_bytes rank s index)) later_objects
-
 abbrev pub first_path_in : ℕ → StoreState → Option Recovery
-first_path_in rank s =
-    if is_clear_later rank s then first_path rank (bytes_from 0 header_bytes_read (s.objects (journal_object rank 0)).held) (bytes_from 0 journal_bytes_read (s.objects (journal_object rank 1)).held)
-    else None
+first_path_in rank s = first_path rank (bytes_from 0 header_bytes_read (s.objects (journal_object rank 0)).held) (bytes_from 0 journal_bytes_read (s.objects (journal_object rank 1)).held)

@@ -1,29 +1,33 @@
--- How far the header of a mount has come in a store that tells its state.
-use Rattle.std.specs.Prelude.{◌≡◌, ◌⊎◌, ℕ, List, ◌∷◌, None}
-use Rattle.mj_store.specs.declared.act.ObjectOp.{ObjectOp}
+-- How far the operations of a mount have come in a store that tells its state.
+use Rattle.std.specs.Prelude.{◌≡◌, ◌⊎◌, ℕ, true, false, List, ◌∷◌, None}
+use Rattle.mj_base.specs.declared.object.ObjectName.{ObjectName}
 use Rattle.mj_store.specs.declared.answer.Ack.{Ack}
-use Rattle.mj_store.specs.State.{StoreState, Quiet, submitted, tried, failed}
-use Rattle.mj_rank.specs.declared.mounting.Stage.{Stage}
-use Rattle.mj_rank.specs.declared.mounting.Stage.TheVariants.{Announcing, Announced, Opening, Opened, Ready}
-use Rattle.mj_rank.specs.Mounts.{MountValue, header_op}
+use Rattle.mj_store.specs.Along.{HasOp}
+use Rattle.mj_store.specs.Causes.{In}
+use Rattle.mj_store.specs.State.{StoreState}
+use Rattle.mj_rank.specs.Mounts.{MountValue, sent_of}
 
--- An operation was sent over a store in which nothing was pending. It is pending, or it was applied, or it failed.
-pub record InFlight (op : ObjectOp) (number : ℕ) (s : StoreState) : Type 0 where
-  pub base : StoreState
-  pub quiet : Quiet base
-  pub state : (s ≡ submitted op number base) ⊎ ((s ≡ tried op.name (submitted op number base)) ⊎ (s ≡ failed op.name (submitted op number base)))
+-- an operation of this number was tried and is not reported
+pub record HasAck (op : ℕ) (acks : List Ack) : Type 0 where
+  pub ack : Ack
+  pub among : In ack acks
+  pub number : ack.op ≡ op
 
--- At a stage that awaits nothing nothing is pending, and else the header alone.
-abbrev pub HasCome : Stage → MountValue → StoreState → Type 0
-HasCome Announcing v s = Quiet s
-HasCome Announced v s = InFlight (header_op v.number v.header) v.sent s
-HasCome Opening v s = Quiet s
-HasCome Opened v s = InFlight (header_op v.number v.header) v.sent s
-HasCome Ready v s = Quiet s
+-- one that failed is not reported
+pub record HasFailed (acks : List Ack) : Type 0 where
+  pub ack : Ack
+  pub among : In ack acks
+  pub failed : ack.done ≡ false
 
--- So it is where no fault keeps the mount from going on.
+-- Each of these operations is pending at its object, or it was tried and is to be reported. An object is blocked only where a
+-- failure is to be reported.
+pub record AreOut (ops : List (ℕ × ObjectName)) (s : StoreState) : Type 0 where
+  pub each : (op : ℕ × ObjectName) → In op ops → HasOp op.0 (s.objects op.1).pending ⊎ HasAck op.0 s.completed
+  pub free : (name : ObjectName) → (s.objects name).blocked ≡ true → HasFailed s.completed
+
+-- So it is with what a mount has sent, where no fault keeps it from going on.
 abbrev pub GoesOn : MountValue → StoreState → Type 0
-GoesOn v s = v.fault ≡ None → HasCome v.stage v s
+GoesOn v s = v.fault ≡ None → AreOut (sent_of v) s
 
 -- something was tried and is not reported
 pub record HasCompleted (s : StoreState) : Type 0 where

@@ -8,6 +8,7 @@ pub mod Request
 pub mod Sending
 pub mod Mount
 pub mod FirstPath
+pub mod Cutting
 pub mod Mounts
 pub mod History
 pub mod Flight

@@ -4,8 +4,7 @@
 --     MountLives     a mount is on its way
 --     StopLives      nothing runs, and nothing is pending
 --     Recovers       an image recovers to a tree
-use Rattle.std.specs.Prelude.{◌≡◌, ℕ, ◌<◌, ◌≤◌, List, [], ◌++◌, map, length, drop, Option, Some, None, unwrap_or}
-use Rattle.mj_base.specs.ObjectName.{journal_ino}
+use Rattle.std.specs.Prelude.{◌≡◌, ℕ, ◌^◌, ◌<◌, ◌≤◌, List, [], ◌++◌, map, length, drop, Option, Some, None, unwrap_or}
 use Rattle.mj_base.specs.declared.object.ObjectName.{ObjectName}
 use Rattle.mj_maps.specs.Map.{get}
 use Rattle.mj_tree.specs.State.{PlainState, root}
@@ -22,6 +21,7 @@ use Rattle.mj_recovery.specs.Objects.{Objects, Holds}
 use Rattle.mj_recovery.specs.Recovered.{Recovery, RecoversTo, stored_table, bad_table, bad_key_of}
 use Rattle.mj_machine.specs.Machine.{LogMachine, early_state, accepted, made_safe}
 use Rattle.mj_machine.specs.CrashSafe.{IsFrontState, IsCrashSafe}
+use Rattle.mj_event.specs.Event.{event_bytes}
 use Rattle.mj_delta.specs.Histories.{Turn, all_writes}
 use Rattle.mj_delta.specs.Fresh.{fresh_table}
 use Rattle.mj_facts.specs.Journalled.{Journalled, IsJournalled, end_of}
@@ -29,8 +29,8 @@ use Rattle.mj_facts.specs.Rests.{Rests}
 use Rattle.mj_facts.specs.Headers.{may_stand, IsBounded}
 use Rattle.mj_facts.specs.Ranks as facts
 use Rattle.mj_facts.specs.Ranks.{Sent, safe_of, tail_of}
-use Rattle.mj_facts.specs.Mounts.{Mounts, MountInOrder}
-use Rattle.mj_facts.specs.Calls.{IsBuffer, entry_ends}
+use Rattle.mj_facts.specs.Mounts.{Mounts}
+use Rattle.mj_facts.specs.Calls.{IsBuffer, IsNear, entry_ends}
 use Rattle.mj_facts.specs.Serves.{Serves}
 use Rattle.mj_facts.specs.Few.{HoldsOnly}
 use Rattle.mj_facts.specs.Elsewhere.{NothingCommitted, keys_of}
@@ -38,11 +38,14 @@ use Rattle.mj_rank.specs.declared.answers.Early.{Early}
 use Rattle.mj_rank.specs.declared.answers.Reaped.{Reaped}
 use Rattle.mj_rank.specs.declared.answers.Reaped.TheVariants.{One, Nothing}
 use Rattle.mj_rank.specs.declared.mounting.Mounting as mounting
+use Rattle.mj_rank.specs.declared.mounting.Stage.{Stage}
+use Rattle.mj_rank.specs.declared.mounting.Stage.TheVariants.{Announcing, Announced, Cutting, Opened, Ready}
 use Rattle.mj_rank.specs.declared.rank.Rank.{Rank}
-use Rattle.mj_rank.specs.declared.log.Write as log
-use Rattle.mj_rank.specs.Log.{LogValue, log_value}
-use Rattle.mj_rank.specs.FirstPath.{journal_limit}
-use Rattle.mj_rank.specs.Mount.{first_log}
+use Rattle.mj_journaler.specs.Journal.{Journal, layout_of, IsNew}
+use Rattle.mj_journaler.specs.declared.sent.Sent as journaler
+use Rattle.mj_rank.specs.Log.{log_value, entry_end}
+use Rattle.mj_rank.specs.Cutting.{near_end, cuttings}
+use Rattle.mj_rank.specs.Mount.{empty_log, first_log, subtree_map}
 use Rattle.mj_rank.specs.Mounts.{MountValue, mount_value}
 use Rattle.mj_rank.specs.Flight.{GoesOn}
 use Rattle.mj_rank.specs.History.{IsHistory}
@@ -81,28 +84,30 @@ pub record IsNewStore (rank : ℕ) (s : StoreState) : Type 0 where
 
 -- ---- a rank that serves
 
--- numbers and beginnings of writes
-abbrev pub of_writes : List log.Write → List (ℕ × ℕ)
-of_writes ws = map (λ (w : log.Write). (w.op, w.from)) ws
+-- the journaler's writes that are out, as those of the facts
+abbrev pub as_write : journaler.Sent → Sent
+as_write w = record { op = w.op; from = w.from; to = w.to }
 
-abbrev pub of_sent : List Sent → List (ℕ × ℕ)
-of_sent ws = map (λ (w : Sent). (w.op, w.from)) ws
+abbrev pub writes_of : List journaler.Sent → List Sent
+writes_of ws = map as_write ws
 
 -- the program's log is that of the facts
-pub record IsLogOf (rank : ℕ) (l : LogValue) (r : facts.Rank) : Type 0 where
-  pub layout : l.layout ≡ r.journal.layout
-  pub ino : l.ino ≡ journal_ino rank
+pub record IsLogOf (rank : ℕ) (l : Journal) (r : facts.Rank) : Type 0 where
+  pub number : l.rank ≡ rank
+  pub layout : layout_of l ≡ r.journal.layout
   pub safe : l.safe ≡ safe_of r
   pub flushed : l.flushed ≡ r.flushed
-  pub buffer : IsBuffer r.journal r.flushed l.bytes
+  pub buffer : IsBuffer r.journal r.flushed l.buffer
   pub ends : l.ends ≡ entry_ends (safe_of r) (drop r.count r.journal.events)
-  pub writes : of_writes l.writes ≡ of_sent r.sent
+  pub writes : r.sent ≡ writes_of l.sent
 
 -- A rank with this log, tree and version of the root's head, and the machine, over a store in this state.
-pub record Lives (rank : ℕ) (l : LogValue) (tree : PlainState) (version : ℕ) (m : LogMachine) (s : StoreState) : Type 0 where
+pub record Lives (rank : ℕ) (l : Journal) (tree : PlainState) (version : ℕ) (m : LogMachine) (s : StoreState) : Type 0 where
   pub facts : facts.Rank
   pub serves : Serves facts s
   pub log : IsLogOf rank l facts
+  -- the store's next numbers are above all that are out
+  pub newest : IsNew s.next l
   pub older : List Turn
   pub newer : List Turn
   pub history : IsHistory rank facts.journal older newer m
@@ -151,29 +156,41 @@ StopLives state store rank m = Tells (state store) (Rested rank m)
 
 -- ---- a mount
 
--- A mount with this value. Nothing lies above the tail but in objects that were seen to, and the header that it sends next is one
--- by which the whole journal is read, in whatever phase.
+-- Truncations are out only while it cuts. Once it has sent the header by which it serves, it has looked at all objects near the tail.
+abbrev pub HasCut : Stage → MountValue → Type 0
+HasCut Announcing v = v.out ≡ []
+HasCut Announced v = v.out ≡ []
+HasCut Cutting v = Unit {0}
+HasCut Opened v = (v.out ≡ []) × (v.next ≡ v.end)
+HasCut Ready v = (v.out ≡ []) × (v.next ≡ v.end)
+
+-- A mount with this value. Each object near the tail below the next one was seen to, the truncations that are out are its own, and
+-- the header that it sends next is one by which the whole journal is read, in whatever phase. The first entry of its rank fits.
 pub record Mounted (v : MountValue) (m : LogMachine) (s : StoreState) : Type 0 where
   pub facts : facts.Mount
   pub mounts : Mounts facts s
-  pub in_order : MountInOrder facts
+  pub first : 1 ≤ v.next
+  pub end_is : v.end ≡ near_end v.found.layout v.tail
+  pub seen : (index : ℕ) → IsNear facts index → index < v.next → In index facts.cut
+  pub out_is : facts.out ≡ cuttings v.out
+  pub cut : HasCut v.stage v
   pub turns : List Turn
   pub history : IsHistory v.number facts.journal turns [] m
   pub layout_is : v.found.layout ≡ facts.journal.layout
   pub tail_is : v.tail ≡ tail_of facts
-  pub low : v.tail < journal_limit
+  pub fits : entry_end (empty_log v.found v.number v.tail) (event_bytes (subtree_map v.number)) < 2 ^ 62
   pub tree_is : v.tree ≡ early_state m
   pub version_is : get (overlay (fresh_table v.number) (all_writes turns)).heads root ≡ Some v.root_version
-  pub log_is : v.log ≡ first_log v.found.layout v.number v.tail
+  pub log_is : v.log ≡ first_log v.found v.number v.tail
   pub bounded : IsBounded facts.journal (length facts.journal.events) v.header
   pub from_start : v.header.expire ≡ facts.journal.start
   pub whole : (h : Header) → In h (may_stand facts.stood facts.heads) → h.expire ≡ facts.journal.start
   pub new : IsNewStore v.number s
 
--- So it is, and its header is as far as its stage says.
+-- So it is, and what it has sent is on its way.
 pub record OnItsWay (v : MountValue) (m : LogMachine) (s : StoreState) : Type 0 where
   pub mounted : Mounted v m s
-  pub header : GoesOn v s
+  pub sent : GoesOn v s
 
 abbrev pub MountLives : {S : Type 0} → (S → Option StoreState) → mounting.Mounting S → LogMachine → Type 0
 MountLives state k m = Tells (state k.store) (OnItsWay (mount_value k) m)

@@ -5,8 +5,8 @@ use Rattle.mj_store.specs.declared.answer.ReadRefusal.TheVariants as read
 use Rattle.mj_store.specs.declared.answer.SubmitRefusal.{SubmitRefusal}
 use Rattle.mj_store.specs.declared.answer.SubmitRefusal.TheVariants as submit
 use Rattle.mj_rank.specs.declared.answers.Fault.{Fault}
-use Rattle.mj_rank.specs.declared.log.AppendRefusal.{AppendRefusal}
-use Rattle.mj_rank.specs.declared.log.AppendRefusal.TheVariants.{Full, Spent}
+use Rattle.mj_journaler.specs.declared.AppendRefusal.{AppendRefusal}
+use Rattle.mj_journaler.specs.declared.AppendRefusal.TheVariants.{Full, Spent}
 use Rattle.mj_rank.specs.declared.refusal.RankRefusal.{RankRefusal}
 use Rattle.mj_rank.specs.declared.refusal.RankRefusal.TheVariants.{Down, LogFull, PositionSpent, Memory}
 use Rattle.mj_rank.specs.declared.refusal.MountRefusal.{MountRefusal}

@@ -1,5 +1,5 @@
 -- A rank as a value, and what a request makes of it.
-use Rattle.std.specs.Prelude.{◌≡◌, ℕ, ◌+◌, nat_le, List, [], ◌∷◌, ◌++◌, if◌then◌else◌, Option, None, Some, option_map}
+use Rattle.std.specs.Prelude.{◌≡◌, ℕ, ◌+◌, nat_le, List, [], ◌∷◌, ◌++◌, if◌then◌else◌, Option, None, Some}
 use Rattle.std.specs.Option.{option_and_then}
 use Rattle.mj_event.specs.declared.Event.{Event}
 use Rattle.mj_event.specs.Event.{event_bytes}
@@ -16,9 +16,11 @@ use Rattle.mj_rank.specs.declared.rank.Rank.{Rank}
 use Rattle.mj_rank.specs.declared.waiting.Waiting.{Waiting}
 use Rattle.mj_rank.specs.declared.refusal.RankRefusal.{RankRefusal}
 use Rattle.mj_rank.specs.declared.refusal.RankRefusal.TheVariants as refusal
-use Rattle.mj_rank.specs.declared.log.AppendRefusal.{AppendRefusal}
-use Rattle.mj_rank.specs.declared.log.AppendRefusal.TheVariants.{Full, Spent}
-use Rattle.mj_rank.specs.Log.{LogValue, log_value, append_refusal, entry_end, with_entry}
+use Rattle.mj_journaler.specs.declared.AppendRefusal.{AppendRefusal}
+use Rattle.mj_journaler.specs.declared.AppendRefusal.TheVariants.{Full, Spent, Memory}
+use Rattle.mj_journaler.specs.Journal.{Journal}
+use Rattle.mj_journaler.specs.Calls.{append_refusal}
+use Rattle.mj_rank.specs.Log.{log_value, entry_end, with_entry}
 use Rattle.mj_rank.specs.Journaled.{event_of, version_after}
 use Rattle.mj_rank.specs.Waiting.{waiting_end, unsafe_end}
 
@@ -27,7 +29,7 @@ use Rattle.mj_rank.specs.Waiting.{waiting_end, unsafe_end}
 pub record RankValue : Type 0 where
   pub number : ℕ
   pub epoch : ℕ
-  pub log : LogValue
+  pub log : Journal
   pub tree : PlainState
   pub root_version : ℕ
   pub waiting : List Waiting
@@ -57,14 +59,16 @@ pub data Cause : Type 0 where
   IsFull : ℕ → Cause
   IsAtEnd : ℕ → Cause
 
-abbrev pub of_append : AppendRefusal → Cause
-of_append (Full bytes) = Cause.IsFull bytes
-of_append (Spent position) = Cause.IsAtEnd position
+-- want of memory is none
+abbrev pub of_append : AppendRefusal → Option Cause
+of_append (Full bytes) = Some (Cause.IsFull bytes)
+of_append (Spent position) = Some (Cause.IsAtEnd position)
+of_append Memory = None
 
 -- the event's entry does not fit
-abbrev pub cause_of_event : LogValue → Option Event → Option Cause
+abbrev pub cause_of_event : Journal → Option Event → Option Cause
 cause_of_event l None = None
-cause_of_event l (Some e) = option_map of_append (append_refusal l (event_bytes e))
+cause_of_event l (Some e) = option_and_then of_append (append_refusal l (event_bytes e))
 
 abbrev pub cause_by : RankValue → ClientRequest → Option Fault → Option Cause
 cause_by v r (Some fault) = Some (Cause.IsDown fault)

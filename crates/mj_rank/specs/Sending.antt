@@ -1,5 +1,5 @@
 -- What a rank's flush and reap do to it and to its store.
-use Rattle.std.specs.Prelude.{◌≡◌, ℕ, Bool, true, false, ◌==◌, nat_lt, List, filter, Option, None, Some}
+use Rattle.std.specs.Prelude.{◌≡◌, ℕ, true, nat_lt, List, filter, Option, None, Some}
 use Rattle.mj_store.specs.declared.answer.Ack.{Ack}
 use Rattle.mj_store.specs.State.{StoreState}
 use Rattle.mj_store.specs.Moves.{Submits}
@@ -8,26 +8,26 @@ use Rattle.mj_rank.specs.declared.answers.Reaped.{Reaped}
 use Rattle.mj_rank.specs.declared.answers.Reaped.TheVariants.{One, Nothing}
 use Rattle.mj_rank.specs.declared.rank.Rank.{Rank}
 use Rattle.mj_rank.specs.declared.waiting.Waiting.{Waiting}
-use Rattle.mj_rank.specs.Log.{LogValue, flush_end, write_of, sent, acked}
+use Rattle.mj_journaler.specs.Journal.{Journal}
+use Rattle.mj_journaler.specs.Calls.{flush_of, offer_op, taken, acknowledged}
+use Rattle.mj_journaler.specs.declared.sent.Offer.{Offer}
+use Rattle.mj_rank.specs.Log.{next_span}
 use Rattle.mj_rank.specs.Request.{RankValue, value_of}
 
 -- ---- flush
 
-abbrev pub with_log : RankValue → LogValue → RankValue
+abbrev pub with_log : RankValue → Journal → RankValue
 with_log v l = record v { log = l }
 
--- the next write, which is empty where there is nothing to write
-abbrev pub next_span : LogValue → Span
-next_span l = record { from = l.flushed; to = flush_end l }
+-- Where there is no next write nothing is done. Else it was submitted, under a number of the store's.
+abbrev pub Sends : {S : Type 0} → (S → Option StoreState) → Option Offer → Rank S → Rank S → Type 0
+Sends state None old new = (value_of new ≡ value_of old) × (new.store ≡ old.store)
+Sends state (Some write) old new = (op : ℕ) × (value_of new ≡ with_log (value_of old) (taken op write (value_of old).log))
+    × Submits (offer_op (value_of old).log write) op (state old.store) (state new.store)
 
--- An empty span is no write. Else it was submitted, under a number of the store's.
-abbrev pub Sends : {S : Type 0} → (S → Option StoreState) → Bool → Rank S → Rank S → Type 0
-Sends state true old new = (value_of new ≡ value_of old) × (new.store ≡ old.store)
-Sends state false old new = (op : ℕ) × (value_of new ≡ with_log (value_of old) (sent op (flush_end (value_of old).log) (value_of old).log))
-    × Submits (write_of (value_of old).log (flush_end (value_of old).log)) op (state old.store) (state new.store)
-
+-- The next write is the journaler's, and its span is told.
 abbrev pub Flushes : {S : Type 0} → (S → Option StoreState) → Span → Rank S → Rank S → Type 0
-Flushes state span old new = (span ≡ next_span (value_of old).log) × Sends state (span.to == span.from) old new
+Flushes state span old new = (span ≡ next_span (value_of old).log) × Sends state (flush_of (value_of old).log) old new
 
 -- ---- reap
 
@@ -40,7 +40,7 @@ abbrev pub unsafe_only : ℕ → List Waiting → List Waiting
 unsafe_only safe ws = filter (λ (w : Waiting). nat_lt safe w.ends) ws
 
 abbrev pub after_ack : ℕ → RankValue → RankValue
-after_ack op v = record v { log = acked op v.log; waiting = unsafe_only (acked op v.log).safe v.waiting }
+after_ack op v = record v { log = acknowledged op v.log; waiting = unsafe_only (acknowledged op v.log).safe v.waiting }
 
 -- the safe position is told before and after
 abbrev pub Acknowledges : {S : Type 0} → Reaped → Rank S → Rank S → Type 0

@@ -1,22 +1,23 @@
-//! The mount of the first path: the header's layout is the default one, nothing is expired, and the journal lies in one object,
-//! with nothing in the later ones that a write may have reached.
+//! The mount of the first path: the header's layout is the default one, nothing is expired, and the journal lies in one object.
 
-ghost use Rattle.std.specs.Prelude.{◌≡◌, ◌≤◌, ◌<◌, IfOk, IfErr, OnErr, IsTrue, Some};
+ghost use Rattle.std.specs.Prelude.{◌≡◌, ◌≤◌, ◌<◌, IfOk, IfErr, IsTrue, Some};
 ghost use Rattle.mj_base.specs.Counts.{Rose};
 ghost use Rattle.mj_store.specs.State.{StoreState};
 ghost use Rattle.mj_store.specs.Moves.{Stays, Still};
 ghost use Rattle.mj_tree.specs.Meaning.{state_of};
 ghost use Rattle.mj_recovery.specs.View.{recovery_of};
 ghost use Rattle.mj_rank.specs.Refusals.{IsStoreFault};
+ghost use Rattle.mj_layout.specs.Header.{IsHeader};
+ghost use Rattle.mj_rank.specs.Mount.{next_header};
 ghost use Rattle.mj_rank.specs.Sound.{is_sound};
-ghost use Rattle.mj_rank.specs.FirstPath.{Finds, IsFoundIn, IsNoOther, is_clear_later, first_path, first_path_in};
+ghost use Rattle.mj_rank.specs.FirstPath.{Finds, IsFoundIn, IsNoOther, first_path, first_path_in};
 
 use crate::conditions::{first_objects, is_first, root_version};
 use crate::found::{Found, journal_object};
 use crate::refusal::MountRefusal;
 use mj_base::{Damage, RankNo};
 use mj_recovery::{RecoverRefusal, Recovery, recovered};
-use mj_store::{ObjectStore, ReadRefusal, StoreFault};
+use mj_store::{ObjectStore, ReadRefusal};
 use std::alloc::{AllocError, Global};
 
 /// The most bytes that are read of the header's object: one more than a header has.
@@ -24,7 +25,7 @@ const HEADER_BYTES: u32 = 70;
 /// The most bytes that are read of the journal's first object: with all of them the journal would end too far up.
 const JOURNAL_BYTES: u32 = 1_805_696;
 
-/// Reads the header's object and the journal's first, and asks for the size of those behind it.
+/// Reads the header's object and the journal's first.
 pub fn read_found<S: ObjectStore>(
     alloc: Global,
     store: &mut S,
@@ -39,27 +40,7 @@ pub fn read_found<S: ObjectStore>(
 {
     let header = store.read(alloc, &journal_object(number, 0), 0, HEADER_BYTES)?;
     let journal = store.read(alloc, &journal_object(number, 1), 0, JOURNAL_BYTES)?;
-    if !is_clear_later(store, number)? {
-        return Err(MountRefusal::Damage(Damage::Unbuilt));
-    }
     judged(alloc, number, &header, &journal)
-}
-
-// Whether nothing lies in the later objects of the window.
-fn is_clear_later<S: ObjectStore>(store: &mut S, number: RankNo) -> Result<bool, StoreFault>
-    ensures same_list { S.unreported store.new ≡ S.unreported store.old }
-    ensures later { S.faults store.old ≤ S.faults store.new }
-    ensures cause { OnErr result (Rose (S.faults store.old) (S.faults store.new)) }
-    ensures told { (s : StoreState) → S.state store.old ≡ Some s → Still s → IfOk result (λ clear. clear ≡ is_clear_later number s) }
-    ensures stays { Stays (S.state store.old) (S.state store.new) }
-{
-    for index in 2..6u64 {
-        let size = store.size(&journal_object(number, index))?;
-        if size.unwrap_or(0) > 0 {
-            return Ok(false);
-        }
-    }
-    Ok(true)
 }
 
 // What these bytes of the header and of the journal's first object come to.
@@ -89,6 +70,7 @@ fn judged(
 fn found(recovery: Recovery) -> Found
     requires tail { recovery.journal.tail < 6000000 }
     requires sound { IsTrue (is_sound (state_of recovery.tree)) }
+    requires goes_on { IsHeader (next_header recovery.journal.header recovery.journal.tail) }
     ensures { IsFoundIn result (recovery_of recovery) }
 {
     let root_version = root_version(&recovery.cells);

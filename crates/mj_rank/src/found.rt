@@ -1,17 +1,19 @@
 //! What a mount finds, and with what its rank begins.
 
-ghost use Rattle.std.specs.Prelude.{◌≡◌, ◌<◌, ◌+◌, ◌^◌, min, IfOk, IsTrue};
+ghost use Rattle.std.specs.Prelude.{◌≡◌, ◌<◌, ◌≤◌, ◌+◌, ◌^◌, min, IfOk, IsTrue};
+ghost use Rattle.mj_layout.specs.Header.{IsHeader};
 ghost use Rattle.mj_event.specs.Event.{IsEvent};
 ghost use Rattle.mj_tree.specs.Meaning.{state_of};
 ghost use Rattle.mj_recovery.specs.Stream.{journal_object};
-ghost use Rattle.mj_rank.specs.Log.{log_value};
-ghost use Rattle.mj_rank.specs.Mount.{subtree_map, first_log, next_header};
+ghost use Rattle.mj_rank.specs.Log.{log_value, is_unsent};
+ghost use Rattle.mj_rank.specs.Mount.{subtree_map, first_log, next_header, serving_header};
 ghost use Rattle.mj_rank.specs.Sound.{is_sound};
 
-use crate::log::Log;
 use mj_base::{Ino, Items, ObjectName, RankNo};
+use mj_entry::ENVELOPE;
 use mj_event::{Event, event_write};
-use mj_layout::Header;
+use mj_journaler::Journaler;
+use mj_layout::{Header, Phase};
 use mj_tree::PlainTree;
 use std::alloc::{AllocError, Global};
 
@@ -24,6 +26,14 @@ pub struct Found {
     pub root_version: u64,
     ghost in_range: { tail < 6000000 },
     ghost sound: { IsTrue (is_sound (state_of tree)) },
+    ghost goes_on: { IsHeader (next_header header tail) },
+}
+
+/// The journal with which a rank begins to serve. Nothing of it was sent.
+#[derive(Drop)]
+pub struct FirstLog {
+    pub journal: Journaler,
+    ghost unsent: { IsTrue (is_unsent journal) },
 }
 
 /// An object of a rank's journal.
@@ -54,15 +64,26 @@ fn subtree_map(alloc: Global, number: RankNo) -> Result<Event, AllocError>
 }
 
 impl Found {
-    /// The log of a rank that serves from here on: it begins with a subtree map.
-    pub fn log(&self, alloc: Global, number: RankNo) -> Result<Log, AllocError>
-        ensures { IfOk result (λ log. log_value log ≡ first_log self.now.header.layout number self.now.tail) }
+    /// The journal of a rank that serves from here on: it begins with a subtree map, for which all memory is taken.
+    pub fn log(&self, alloc: Global, number: RankNo) -> Result<FirstLog, AllocError>
+        ensures { IfOk result (λ log. log_value log.journal ≡ first_log self.now.header number self.now.tail) }
     {
         let payload = event_write(alloc, &subtree_map(alloc, number)?)?;
-        let mut log = Log::new(alloc, self.header.layout, journal_ino(number), self.tail);
-        log.reserve_entry(&payload)?;
-        log.append(alloc, &payload);
-        Ok(log)
+        let mut journal = Journaler::new(alloc, self.serving_header(), number, self.tail)?;
+        journal.reserve(alloc, payload.len() + ENVELOPE)?;
+        journal.append(alloc, &payload).unwrap();
+        Ok(FirstLog { journal })
+    }
+
+    // The header under which a rank serves.
+    fn serving_header(&self) -> Header
+        ensures is { result ≡ serving_header self.now.header self.now.tail }
+        ensures sound { IsHeader result }
+        ensures below { result.expire ≤ self.now.tail }
+    {
+        let mut header = self.next_header();
+        header.phase = Phase::Serving;
+        header
     }
 
     /// The header that a mount sends: its epoch is one more, and at the end of its type it stays.

@@ -4,7 +4,10 @@ ghost use Rattle.std.specs.Prelude.{ℕ};
 ghost use Rattle.mj_store.specs.State.{StoreState};
 ghost use Rattle.mj_tree.specs.State.{PlainState, new_state};
 ghost use Rattle.mj_machine.specs.Machine.{LogMachine};
-ghost use Rattle.mj_rank.specs.Log.{LogValue};
+ghost use Rattle.mj_journaler.specs.Journal.{Journal};
+ghost use Rattle.mj_journaler.specs.Keeps.{MaySend};
+ghost use Rattle.mj_journaler.specs.Calls.{offer_op, taken, acknowledged};
+ghost use Rattle.mj_journaler.specs.declared.sent.Offer.TheVariants.{Flush};
 ghost use Rattle.mj_rank.specs.Mounts.{MountValue};
 ghost use Rattle.mj_rank.specs.Live.{Lives, Rested, Mounted, LeavesFronts};
 ghost use Rattle.mj_store.specs.Object.{Contents};
@@ -22,12 +25,12 @@ ghost use Rattle.mj_event.specs.declared.Event.{Event};
 ghost use Rattle.mj_event.specs.Event.{event_bytes};
 ghost use Rattle.mj_machine.specs.Machine.{opened, accepted, made_safe};
 ghost use Rattle.mj_delta.specs.Fits.{IsSent};
-ghost use Rattle.mj_rank.specs.Log.{flush_end, write_of, sent, acked, safe_after, entry_end, with_entry};
+ghost use Rattle.mj_rank.specs.Log.{entry_end, with_entry};
 ghost use Rattle.mj_rank.specs.Journaled.{IsServedRequest, IsWritable, event_of, version_after};
 
 /// Every image that a store may hold recovers to the machine's state after a front of its requests that has all safe ones.
 pub fn each_image_is_a_front()
-    ensures serving { (rank : ℕ) (l : LogValue) (tree : PlainState) (version : ℕ) (m : LogMachine) (s : StoreState) →
+    ensures serving { (rank : ℕ) (l : Journal) (tree : PlainState) (version : ℕ) (m : LogMachine) (s : StoreState) →
         Lives rank l tree version m s → LeavesFronts rank m s }
     ensures stopped { (rank : ℕ) (m : LogMachine) (s : StoreState) → Rested rank m s → LeavesFronts rank m s }
     ensures mounting { (v : MountValue) (m : LogMachine) (s : StoreState) →
@@ -62,24 +65,24 @@ pub fn a_stopped_store_stays()
 /// The facts hold after each event of the store, after a write is sent, and after one is acknowledged, when the machine makes
 /// safe what ends at or below the log's safe position.
 pub fn a_rank_lives_on()
-    ensures tried { (rank : ℕ) (l : LogValue) (tree : PlainState) (version : ℕ) (m : LogMachine) (s : StoreState) (name : ObjectName) →
+    ensures tried { (rank : ℕ) (l : Journal) (tree : PlainState) (version : ℕ) (m : LogMachine) (s : StoreState) (name : ObjectName) →
         Lives rank l tree version m s → Lives rank l tree version m (tried name s) }
-    ensures not_done { (rank : ℕ) (l : LogValue) (tree : PlainState) (version : ℕ) (m : LogMachine) (s : StoreState) (name : ObjectName) →
+    ensures not_done { (rank : ℕ) (l : Journal) (tree : PlainState) (version : ℕ) (m : LogMachine) (s : StoreState) (name : ObjectName) →
         Lives rank l tree version m s → Lives rank l tree version m (failed name s) }
-    ensures told { (rank : ℕ) (l : LogValue) (tree : PlainState) (version : ℕ) (m : LogMachine) (s : StoreState) →
+    ensures told { (rank : ℕ) (l : Journal) (tree : PlainState) (version : ℕ) (m : LogMachine) (s : StoreState) →
         Lives rank l tree version m s → Lives rank l tree version m (reported s) }
-    ensures write { (rank : ℕ) (l : LogValue) (tree : PlainState) (version : ℕ) (m : LogMachine) (s : StoreState) (op : ℕ) → s.next ≤ op →
-        l.flushed < flush_end l → Lives rank l tree version m s → Lives rank (sent op (flush_end l) l) tree version m (submitted (write_of l (flush_end l)) op s) }
-    ensures write_done { (rank : ℕ) (l : LogValue) (tree : PlainState) (version : ℕ) (m : LogMachine) (s : StoreState) (a : Ack) →
+    ensures write { (rank : ℕ) (l : Journal) (tree : PlainState) (version : ℕ) (m : LogMachine) (s : StoreState) (op to : ℕ) → s.next ≤ op →
+        MaySend l (Some (Flush to)) → Lives rank l tree version m s → Lives rank (taken op (Flush to) l) tree version m (submitted (offer_op l (Flush to)) op s) }
+    ensures write_done { (rank : ℕ) (l : Journal) (tree : PlainState) (version : ℕ) (m : LogMachine) (s : StoreState) (a : Ack) →
         s.completed ≡ a ∷ drop 1 s.completed → a.done ≡ true → Lives rank l tree version m s →
-        Lives rank (acked a.op l) tree version (made_safe m (safe_after a.op l)) (reported s) }
+        Lives rank (acknowledged a.op l) tree version (made_safe m (acknowledged a.op l).safe) (reported s) }
 {}
 
 /// They hold after a request, which the machine accepts with the end of its entry.
 pub fn a_rank_answers()
-    ensures same { (rank : ℕ) (l : LogValue) (tree : PlainState) (version : ℕ) (m : LogMachine) (s : StoreState) (r : ClientRequest) (ends : ℕ) →
+    ensures same { (rank : ℕ) (l : Journal) (tree : PlainState) (version : ℕ) (m : LogMachine) (s : StoreState) (r : ClientRequest) (ends : ℕ) →
         is_change (decision tree r) ≡ false → Lives rank l tree version m s → Lives rank l tree version (accepted m r ends) s }
-    ensures changed { (rank : ℕ) (l : LogValue) (tree : PlainState) (version : ℕ) (m : LogMachine) (s : StoreState) (r : ClientRequest) (e : Event) (d : Decision) →
+    ensures changed { (rank : ℕ) (l : Journal) (tree : PlainState) (version : ℕ) (m : LogMachine) (s : StoreState) (r : ClientRequest) (e : Event) (d : Decision) →
         Lives rank l tree version m s → decision tree r ≡ d → event_of version tree r d ≡ Some e → IsSent r → IsServedRequest r → IsWritable e →
         entry_end l (event_bytes e) < 2 ^ 62 → is_change d ≡ true →
         Lives rank (with_entry l (event_bytes e)) (state_after tree r d) (version_after version d) (accepted m r (entry_end l (event_bytes e))) s }

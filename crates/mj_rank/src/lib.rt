@@ -3,14 +3,16 @@
 
 mod answers;
 mod conditions;
+mod cutting;
 mod event;
 mod first_path;
 mod found;
 mod laws;
-mod log;
 mod mounting;
 mod rank;
 mod refusal;
+#[cfg(test)]
+mod tests;
 mod waiting;
 
 pub use answers::{Early, Fault, MountStep, Reaped, Span};

@@ -7,9 +7,9 @@ ghost use Rattle.mj_store.specs.Causes.{Counted};
 ghost use Rattle.mj_rank.specs.Refusals.{IsStoreFault};
 
 use crate::answers::MountStep;
+use crate::cutting::{Cuts, look};
 use crate::first_path::read_found;
-use crate::found::{Found, journal_object};
-use crate::log::Log;
+use crate::found::{FirstLog, Found, journal_object};
 use crate::rank::Rank;
 use crate::refusal::MountRefusal;
 use mj_base::{Items, ObjectName, OpNo, RankNo};
@@ -24,38 +24,41 @@ enum Stage {
     Announcing,
     /// It is sent.
     Announced,
-    /// The header in the phase of serving is to be sent.
-    Opening,
+    /// Objects are cut at the tail. Then the header in the phase of serving is to be sent.
+    Cutting,
     /// It is sent.
     Opened,
     Ready,
 }
 
-/// A mount that has read what the store holds, and sends its headers.
+/// A mount that has read what the store holds. It sends a header, cuts what lies above the tail, and sends the header by which it
+/// serves.
 pub struct Mounting<S> {
     store: S,
     number: RankNo,
     header: Header,
     found: Found,
-    log: Log,
+    log: FirstLog,
     stage: Stage,
     /// The header that was sent last.
     sent: OpNo,
+    cuts: Cuts,
     fault: Option<StoreFault>,
 }
 
 impl<S: ObjectStore> Mounting<S> {
     ghost use Rattle.mj_store.specs.State.{StoreState};
-    ghost use Rattle.mj_store.specs.Moves.{Still, Submits, Steps, Stays, Restarts};
+    ghost use Rattle.mj_store.specs.Moves.{Still, Steps, Stays, Restarts};
     ghost use Rattle.mj_rank.specs.FirstPath.{IsNoOther, first_path_in};
-    ghost use Rattle.mj_rank.specs.Mounts.{Begins, BeginsAs, SendsHeader, KeepsFound, MountSteps, header_op, first_value, oldest_header, phase_at, next_stage};
+    ghost use Rattle.mj_rank.specs.Cutting.{IsTruncation};
+    ghost use Rattle.mj_rank.specs.Mounts.{Begins, BeginsAs, KeepsFound, MountSteps, SendsAt, SendsTruncation, IsUnmoved, HasLooked, AwaitsAt, AwaitsSent, mount_value, first_value, oldest_of, phase_at, next_stage, acked_stage, acked_out};
     ghost use Rattle.mj_rank.specs.Flight.{HasCompleted};
     ghost use Rattle.mj_store.specs.Events.{Tells};
-    ghost use Rattle.mj_recovery.specs.Stream.{journal_object};
     ghost use Rattle.mj_rank.specs.Request.{value_of};
     ghost use Rattle.mj_machine.specs.Machine.{LogMachine, stopped};
     ghost use Rattle.mj_rank.specs.Live.{MountLives, RankLives, StopLives, StopsSafely};
-    ghost use Rattle.mj_rank.specs.Since.{MountSince, RankSince, IsAlone, AwaitsSent, AwaitsNone, IsSent, IsWaiting, steps_left, Makes};
+    ghost use Rattle.mj_rank.specs.Since.{MountSince, RankSince, IsSent, IsWaiting, IsReapedOf, steps_left, numbers_of, Makes};
+    ghost use Rattle.mj_rank.specs.declared.mounting.Stage.TheVariants.{Ready, Cutting};
 
     /// Reads the header and the journal. Nothing is submitted.
     pub fn begin(
@@ -86,6 +89,7 @@ impl<S: ObjectStore> Mounting<S> {
             Err(_) => return Err((store, MountRefusal::Memory)),
         };
         let header = found.next_header();
+        let cuts = Cuts::new(alloc, &found.header.layout, found.tail);
         Ok(Mounting {
             store,
             number,
@@ -94,6 +98,7 @@ impl<S: ObjectStore> Mounting<S> {
             log,
             stage: Stage::Announcing,
             sent: OpNo(0),
+            cuts,
             fault: None,
         })
     }
@@ -112,14 +117,15 @@ impl<S: ObjectStore> Mounting<S> {
         self.fault.as_ref()
     }
 
-    /// Sends the next header, or takes the acknowledgement of the last.
+    /// Sends the next header or the next truncation, or takes an acknowledgement. All truncations are sent, in the order of their
+    /// objects, before the first of them is awaited.
     pub fn step(&mut self, alloc: Global) -> Result<MountStep, MountRefusal>
         ensures since { (base : ℕ) → MountSince S.faults S.unreported base self.old → MountSince S.faults S.unreported base self.new }
         ensures cause { (base : ℕ) → MountSince S.faults S.unreported base self.old → IfErr result (λ e. IsStoreFault e → Rose base (S.faults self.new.store)) }
-        ensures moves { (base : ℕ) → MountSince S.faults S.unreported base self.old → IfOk result (λ step. Makes step (steps_left self.old.stage) (steps_left self.new.stage)) }
-        ensures waits { IfOk result (λ step. IsWaiting step → AwaitsSent self.new.stage) }
+        ensures moves { (base : ℕ) → MountSince S.faults S.unreported base self.old → IfOk result (λ step. Makes step (steps_left self.old) (steps_left self.new)) }
+        ensures reaped { (base : ℕ) → MountSince S.faults S.unreported base self.old → IfOk result (IsReapedOf (numbers_of self.old)) }
+        ensures waits { IfOk result (λ step. IsWaiting step → AwaitsSent self.new) }
         ensures up { OnOk result (self.new.fault ≡ None) }
-        ensures sends { IfOk result (λ step. IsSent step → SendsHeader S.state self.old self.new) }
         ensures kept { KeepsFound self.old self.new }
         ensures steps { MountSteps S.state result self.old self.new }
         ensures never_waits { Tells (S.state self.old.store) HasCompleted → IfOk result (λ step. IsWaiting step → ⊥) }
@@ -129,27 +135,23 @@ impl<S: ObjectStore> Mounting<S> {
         if let Some(fault) = self.fault {
             return Err(MountRefusal::Store(fault));
         }
-        match self.stage {
-            Stage::Announcing => self.send(alloc, Phase::Mounting, Stage::Announced),
-            Stage::Announced => self.await_done(Stage::Opening),
-            Stage::Opening => self.send(alloc, Phase::Serving, Stage::Opened),
-            Stage::Opened => self.await_done(Stage::Ready),
-            Stage::Ready => Ok(MountStep::Ready),
-        }
+        self.go_on(alloc)
     }
 
-    /// The operation that is sent and not acknowledged, and its object.
+    /// Of the operations that are sent and not acknowledged the one with the least number, and its object.
     pub fn oldest_sent(&self) -> Option<(OpNo, ObjectName)>
-        ensures { result ≡ oldest_header self.now }
+        ensures { result ≡ oldest_of self.now }
     {
         match self.stage {
             Stage::Announced | Stage::Opened => Some((self.sent, journal_object(self.number, 0))),
-            Stage::Announcing | Stage::Opening | Stage::Ready => None,
+            Stage::Cutting => self.cuts.oldest_sent(self.number),
+            Stage::Announcing | Stage::Ready => None,
         }
     }
 
     /// The rank. Its log begins with a subtree map at the tail.
     pub fn finish(self, alloc: Global) -> Rank<S>
+        requires { self.stage ≡ Ready }
         ensures since { (base : ℕ) → MountSince S.faults S.unreported base self → RankSince S.faults S.unreported base result }
         ensures store { result.store ≡ self.store }
         ensures value { value_of result ≡ first_value self }
@@ -163,15 +165,25 @@ impl<S: ObjectStore> Mounting<S> {
             log,
             stage: _,
             sent: _,
+            cuts: _,
             fault: _,
         } = self;
+        let FirstLog { journal } = log;
         let Found {
             header: _,
             tail: _,
             tree,
             root_version,
         } = found;
-        Rank::serving(alloc, store, number, header.epoch, log, tree, root_version)
+        Rank::serving(
+            alloc,
+            store,
+            number,
+            header.epoch,
+            journal,
+            tree,
+            root_version,
+        )
     }
 
     /// Gives the store back as it is.
@@ -186,6 +198,7 @@ impl<S: ObjectStore> Mounting<S> {
             log: _,
             stage: _,
             sent: _,
+            cuts: _,
             fault: _,
         } = self;
         store
@@ -220,32 +233,39 @@ impl<S: ObjectStore> Mounting<S> {
         ensures kept { self.new ≡ record self.old { store = self.new.store } }
         ensures live { (m : LogMachine) → MountLives S.state self.old m → MountLives S.state self.new m }
         ensures stops { (m : LogMachine) → MountLives S.state self.old m → StopsSafely self.old.number m (S.state self.old.store) (S.state self.new.store) }
-        ensures completes { (m : LogMachine) → MountLives S.state self.old m → self.old.fault ≡ None → AwaitsSent self.old.stage → name.now ≡ journal_object self.old.number 0
+        ensures completes { (m : LogMachine) (op : ℕ) → MountLives S.state self.old m → self.old.fault ≡ None → oldest_of self.old ≡ Some (op, name.now)
             → OnOk result (Tells (S.state self.new.store) HasCompleted) }
     {
         self.store.step(name)
     }
 
+    // Does what the stage asks for.
+    fn go_on(&mut self, alloc: Global) -> Result<MountStep, MountRefusal>
+        requires up { self.old.fault ≡ None }
+        ensures since { (base : ℕ) → MountSince S.faults S.unreported base self.old → MountSince S.faults S.unreported base self.new }
+        ensures cause { (base : ℕ) → MountSince S.faults S.unreported base self.old → IfErr result (λ e. IsStoreFault e → Rose base (S.faults self.new.store)) }
+        ensures reaped { (base : ℕ) → MountSince S.faults S.unreported base self.old → IfOk result (IsReapedOf (numbers_of self.old)) }
+        ensures steps { MountSteps S.state result self.old self.new }
+    {
+        match self.stage {
+            Stage::Announcing => self.send(alloc, Phase::Mounting, Stage::Announced),
+            Stage::Announced | Stage::Opened => self.await_done(),
+            Stage::Cutting => self.cut(alloc),
+            Stage::Ready => Ok(MountStep::Ready),
+        }
+    }
+
     // Sends the header in a phase.
     fn send(&mut self, alloc: Global, phase: Phase, next: Stage) -> Result<MountStep, MountRefusal>
-        requires idle { (base : ℕ) → MountSince S.faults S.unreported base self.old → S.unreported self.old.store ≡ [] }
         requires up { self.old.fault ≡ None }
-        requires none { AwaitsNone self.old.stage }
-        requires stage { AwaitsSent next }
+        requires may { SendsAt self.old.stage (mount_value self.old) }
+        requires looked { HasLooked self.old.stage (mount_value self.old) self.old.cuts.next }
         requires phase { phase ≡ phase_at self.old.stage self.old.header.phase }
         requires next { next ≡ next_stage self.old.stage }
         ensures since { (base : ℕ) → MountSince S.faults S.unreported base self.old → MountSince S.faults S.unreported base self.new }
         ensures cause { (base : ℕ) → MountSince S.faults S.unreported base self.old → IfErr result (λ e. IsStoreFault e → Rose base (S.faults self.new.store)) }
-        ensures up { OnOk result (self.new.fault ≡ None) }
-        ensures sent { IfOk result IsSent }
-        ensures never_waits { IfOk result (λ step. IsWaiting step → ⊥) }
-        ensures stage { OnOk result (self.new.stage ≡ next) }
-        ensures phase { self.new.header ≡ record self.old.header { phase = phase } }
-        ensures told { OnOk result (Submits (header_op self.old.number self.new.header) self.new.sent (S.state self.old.store) (S.state self.new.store)) }
-        ensures kept { KeepsFound self.old self.new }
+        ensures reaped { (base : ℕ) → MountSince S.faults S.unreported base self.old → IfOk result (IsReapedOf (numbers_of self.old)) }
         ensures steps { MountSteps S.state result self.old self.new }
-        ensures live { (m : LogMachine) → MountLives S.state self.old m → MountLives S.state self.new m }
-        ensures stops { (m : LogMachine) → MountLives S.state self.old m → StopsSafely self.old.number m (S.state self.old.store) (S.state self.new.store) }
     {
         self.header.phase = phase;
         let bytes = self.header.write(alloc)?;
@@ -264,26 +284,71 @@ impl<S: ObjectStore> Mounting<S> {
         }
     }
 
-    // Takes the acknowledgement of the header that was sent.
-    fn await_done(&mut self, next: Stage) -> Result<MountStep, MountRefusal>
-        requires alone { (base : ℕ) → MountSince S.faults S.unreported base self.old → IsAlone self.old.sent (S.unreported self.old.store) }
-        requires idle { AwaitsNone next }
-        requires less { steps_left next < steps_left self.old.stage }
+    // Sends the truncation of the next object that is to be cut. Where there is none, it awaits those that are sent, and then sends
+    // the header by which it serves.
+    fn cut(&mut self, alloc: Global) -> Result<MountStep, MountRefusal>
         requires up { self.old.fault ≡ None }
-        requires sent { AwaitsSent self.old.stage }
-        requires next { next ≡ next_stage self.old.stage }
+        requires cutting { self.old.stage ≡ Cutting }
         ensures since { (base : ℕ) → MountSince S.faults S.unreported base self.old → MountSince S.faults S.unreported base self.new }
         ensures cause { (base : ℕ) → MountSince S.faults S.unreported base self.old → IfErr result (λ e. IsStoreFault e → Rose base (S.faults self.new.store)) }
-        ensures moves { (base : ℕ) → MountSince S.faults S.unreported base self.old → IfOk result (λ step. Makes step (steps_left self.old.stage) (steps_left self.new.stage)) }
-        ensures waits { IfOk result (λ step. IsWaiting step → AwaitsSent self.new.stage) }
-        ensures kept { KeepsFound self.old self.new }
-        ensures header { self.new.header ≡ self.old.header }
-        ensures up { OnOk result (self.new.fault ≡ None) }
-        ensures not_sent { IfOk result (λ step. IsSent step → ⊥) }
-        ensures never_waits { Tells (S.state self.old.store) HasCompleted → IfOk result (λ step. IsWaiting step → ⊥) }
+        ensures reaped { (base : ℕ) → MountSince S.faults S.unreported base self.old → IfOk result (IsReapedOf (numbers_of self.old)) }
         ensures steps { MountSteps S.state result self.old self.new }
-        ensures live { (m : LogMachine) → MountLives S.state self.old m → MountLives S.state self.new m }
-        ensures stops { (m : LogMachine) → MountLives S.state self.old m → StopsSafely self.old.number m (S.state self.old.store) (S.state self.new.store) }
+    {
+        let layout = self.found.header.layout;
+        let found = look(
+            &mut self.store,
+            self.number,
+            &layout,
+            self.found.tail,
+            self.cuts.next,
+            self.cuts.end,
+        )?;
+        if let Some((index, op)) = found {
+            return self.send_cut(alloc, index, op);
+        }
+        self.cuts.next = self.cuts.end;
+        if self.cuts.out.is_empty() {
+            self.send(alloc, Phase::Serving, Stage::Opened)
+        } else {
+            self.await_done()
+        }
+    }
+
+    // Sends the truncation of an object.
+    fn send_cut(
+        &mut self,
+        alloc: Global,
+        index: u64,
+        op: ObjectOp,
+    ) -> Result<MountStep, MountRefusal>
+        requires up { self.old.fault ≡ None }
+        requires cutting { self.old.stage ≡ Cutting }
+        requires within { index < self.old.cuts.end }
+        requires op { IsTruncation self.old.number index op }
+        ensures since { (base : ℕ) → MountSince S.faults S.unreported base self.old → MountSince S.faults S.unreported base self.new }
+        ensures cause { (base : ℕ) → MountSince S.faults S.unreported base self.old → IfErr result (λ e. IsStoreFault e → Rose base (S.faults self.new.store)) }
+        ensures sent { IfOk result (λ step. SendsTruncation S.state index op step self.old self.new) }
+        ensures refused { OnErr result (IsUnmoved S.state self.old self.new) }
+    {
+        self.cuts.reserve()?;
+        match self.store.submit(alloc, op) {
+            Ok(number) => {
+                self.cuts.sent(number, index);
+                Ok(MountStep::Sent(journal_object(self.number, index)))
+            }
+            Err(refusal) => Err(MountRefusal::from(refusal)),
+        }
+    }
+
+    // Takes the acknowledgement of something that was sent.
+    fn await_done(&mut self) -> Result<MountStep, MountRefusal>
+        requires up { self.old.fault ≡ None }
+        requires sent { AwaitsAt self.old.stage (mount_value self.old) }
+        requires looked { HasLooked self.old.stage (mount_value self.old) self.old.cuts.next }
+        ensures since { (base : ℕ) → MountSince S.faults S.unreported base self.old → MountSince S.faults S.unreported base self.new }
+        ensures cause { (base : ℕ) → MountSince S.faults S.unreported base self.old → IfErr result (λ e. IsStoreFault e → Rose base (S.faults self.new.store)) }
+        ensures reaped { (base : ℕ) → MountSince S.faults S.unreported base self.old → IfOk result (IsReapedOf (numbers_of self.old)) }
+        ensures steps { MountSteps S.state result self.old self.new }
     {
         match self.store.reap() {
             None => Ok(MountStep::Waiting),
@@ -295,9 +360,23 @@ impl<S: ObjectStore> Mounting<S> {
                     self.fault = Some(fault);
                     return Err(MountRefusal::Store(fault));
                 }
-                self.stage = next;
+                self.acked(op);
                 Ok(MountStep::Reaped(op))
             }
+        }
+    }
+
+    // A header is acknowledged, or one of the truncations.
+    fn acked(&mut self, op: OpNo)
+        ensures store { self.new.store ≡ self.old.store }
+        ensures value { mount_value self.new ≡ record (mount_value self.old) { stage = acked_stage self.old.stage; out = acked_out self.old.stage op self.old.cuts.out.items } }
+        ensures next { self.new.cuts.next ≡ self.old.cuts.next }
+    {
+        match self.stage {
+            Stage::Announced => self.stage = Stage::Cutting,
+            Stage::Cutting => self.cuts.acked(op),
+            Stage::Opened | Stage::Ready => self.stage = Stage::Ready,
+            Stage::Announcing => self.stage = Stage::Announced,
         }
     }
 }

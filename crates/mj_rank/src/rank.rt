@@ -7,11 +7,12 @@ ghost use Rattle.mj_rank.specs.Sound.{is_sound};
 
 use crate::answers::{Early, Fault, Reaped, Span};
 use crate::event::{event_of, known, version_after};
-use crate::log::Log;
 use crate::refusal::{RankRefusal, Sealed};
 use crate::waiting::{Waiting, add, forget_safe, last_of};
 use mj_base::{ClientId, ObjectName, OpNo, RankNo, Tid};
+use mj_entry::ENVELOPE;
 use mj_event::{Event, event_write};
+use mj_journaler::{Acked, Journaler};
 use mj_store::{Ack, ObjectStore, StoreFault, SubmitRefusal};
 use mj_tree::{ClientRequest, Decision, PlainTree, Reply};
 use std::alloc::{AllocError, Global};
@@ -24,7 +25,7 @@ pub struct Rank<S> {
     store: S,
     number: RankNo,
     epoch: u64,
-    log: Log,
+    log: Journaler,
     tree: PlainTree,
     /// The version of the root's head.
     root_version: u64,
@@ -40,15 +41,17 @@ impl<S: ObjectStore> Rank<S> {
     ghost use Rattle.mj_rank.specs.Since.{RankSince};
     ghost use Rattle.mj_rank.specs.Refusals.{IsDown, IsDownFor, IsDownWith, SaysOfAppend};
     ghost use Rattle.mj_rank.specs.Request.{value_of, early_of, after_request, cause_of, Says, most_requests, kept_end, asked_once_more, with_event};
-    ghost use Rattle.mj_rank.specs.Sending.{Flushes, Acknowledges, ack_of};
+    ghost use Rattle.mj_rank.specs.Sending.{Flushes, Acknowledges, ack_of, with_log};
     ghost use Rattle.mj_store.specs.Moves.{Reaps, Stays, Steps, Restarts};
     ghost use Rattle.mj_rank.specs.Waiting.{waiting_end, unsafe_end};
-    ghost use Rattle.mj_rank.specs.Log.{log_value, entry_end, append_refusal, unsafe_bytes, oldest_write};
+    ghost use Rattle.mj_journaler.specs.Journal.{IsNew, unsafe_of};
+    ghost use Rattle.mj_journaler.specs.Calls.{append_refusal, oldest_sent, sent_on};
+    ghost use Rattle.mj_rank.specs.Log.{log_value, entry_end};
     ghost use Rattle.mj_rank.specs.Journaled.{IsServedRequest, IsWritable};
     ghost use Rattle.mj_tree.specs.Answer.{decision, reply_of};
     ghost use Rattle.mj_tree.specs.Listing.{listing};
     ghost use Rattle.mj_event.specs.Event.{event_bytes};
-    ghost use Rattle.std.specs.Prelude.{◌+◌, ◌<◌};
+    ghost use Rattle.std.specs.Prelude.{◌+◌, ◌<◌, IsSome};
     ghost use Rattle.std.specs.Option.{option_and_then, option_copied};
     ghost use Rattle.mj_machine.specs.Machine.{LogMachine, reply_to};
     ghost use Rattle.mj_rank.specs.Live.{RankLives, StopLives, StopsSafely, after_early, after_reap};
@@ -58,7 +61,7 @@ impl<S: ObjectStore> Rank<S> {
         store: S,
         number: RankNo,
         epoch: u64,
-        log: Log,
+        log: Journaler,
         tree: PlainTree,
         root_version: u64,
     ) -> Rank<S>
@@ -173,11 +176,11 @@ impl<S: ObjectStore> Rank<S> {
         requires decided { outcome.now ≡ decision (state_of self.old.tree) r.now }
         requires writable { IsWritable event.now }
         ensures reply { IfOk result (λ early. early.reply ≡ reply_of outcome.now) }
-        ensures end { IfOk result (λ early. early.ends_at ≡ Some (entry_end (log_value self.old.log) (event_bytes event.now))) }
+        ensures end { IfOk result (λ early. early.ends_at ≡ Some (entry_end self.old.log (event_bytes event.now))) }
         ensures place { IfOk result (λ early. early.place ≡ self.old.asked) }
         ensures after { OnOk result (value_of self.new ≡ with_event (value_of self.old) r.entry.now outcome.now (event_bytes event.now)) }
-        ensures admitted { OnOk result (append_refusal (log_value self.old.log) (event_bytes event.now) ≡ None) }
-        ensures refused { IfErr result (λ e. SaysOfAppend e (append_refusal (log_value self.old.log) (event_bytes event.now))) }
+        ensures admitted { OnOk result (append_refusal self.old.log (event_bytes event.now) ≡ None) }
+        ensures refused { IfErr result (λ e. SaysOfAppend e (append_refusal self.old.log (event_bytes event.now))) }
         ensures kept { OnErr result (value_of self.new ≡ value_of self.old) }
         ensures store { self.new.store ≡ self.old.store }
         ensures fault { self.new.fault ≡ self.old.fault }
@@ -186,10 +189,10 @@ impl<S: ObjectStore> Rank<S> {
         if let Some(refusal) = self.log.refusal(&payload) {
             return Err(RankRefusal::of_append(refusal));
         }
-        self.log.reserve_entry(&payload)?;
+        self.log.reserve(alloc, payload.len() + ENVELOPE)?;
         self.waiting.reserve(1)?;
         let reply = self.tree.apply(alloc, r)?;
-        let ends = self.log.append(alloc, &payload);
+        let ends = self.log.append(alloc, &payload).unwrap();
         add(
             &mut self.waiting,
             Waiting {
@@ -227,20 +230,37 @@ impl<S: ObjectStore> Rank<S> {
     {
         self.up()?;
         let from = self.log.flushed();
-        let to = self.log.next_to();
-        if to == from {
-            return Ok(Span { from, to });
-        }
-        self.log.reserve_write()?;
-        let (op, rest) = self.log.write_to(alloc, to)?;
+        let Some(op) = self.log.next_flush(alloc)? else {
+            return Ok(Span { from, to: from });
+        };
         match self.store.submit(alloc, op) {
             Ok(number) => {
-                self.log.sent(number, to, rest);
+                self.is_sent(number)?;
+                let to = self.log.flushed();
                 Ok(Span { from, to })
             }
             Err(SubmitRefusal::Failed(fault)) => Err(self.goes_down(None, fault)),
             Err(SubmitRefusal::Memory(_)) => Err(RankRefusal::Memory),
         }
+    }
+
+    // The write that was given is sent. A store that gives a number which is not new is not used any more.
+    fn is_sent(&mut self, number: OpNo) -> Result<(), RankRefusal>
+        requires given { IsSome self.old.log.offer }
+        requires up { self.old.fault ≡ None }
+        ensures store { self.new.store ≡ self.old.store }
+        ensures sent { OnOk result (value_of self.new ≡ with_log (value_of self.old) (log_value (sent_on number self.old.log.offer self.old.log))) }
+        ensures flushed { OnOk result (self.new.log.flushed ≡ (sent_on number self.old.log.offer self.old.log).flushed) }
+        ensures refused { OnErr result (IsNew number self.old.log → ⊥) }
+        ensures down { IfErr result (IsDownFor self.new.fault) }
+        ensures kept { OnErr result (value_of self.new ≡ record (value_of self.old) { fault = self.new.fault }) }
+    {
+        if !self.log.is_new(number) {
+            let faults = self.store.faults();
+            return Err(self.goes_down(Some(number), StoreFault { faults }));
+        }
+        self.log.sent(number);
+        Ok(())
     }
 
     /// Takes one acknowledgement.
@@ -263,14 +283,12 @@ impl<S: ObjectStore> Rank<S> {
                     let faults = self.store.faults();
                     return Err(self.goes_down(Some(op), StoreFault { faults }));
                 }
-                let safe_from = self.log.safe_pos();
-                self.log.acked(op);
-                let safe_to = self.log.safe_pos();
-                forget_safe(&mut self.waiting, safe_to);
+                let Acked { from, to } = self.log.acked(op);
+                forget_safe(&mut self.waiting, to);
                 Ok(Reaped::One {
                     op,
-                    safe_from,
-                    safe_to,
+                    safe_from: from,
+                    safe_to: to,
                 })
             }
         }
@@ -328,7 +346,7 @@ impl<S: ObjectStore> Rank<S> {
     }
 
     pub fn unsafe_bytes(&self) -> u64
-        ensures { result ≡ unsafe_bytes (log_value self.now.log) }
+        ensures { result ≡ unsafe_of self.now.log }
     {
         self.log.unsafe_bytes()
     }
@@ -340,9 +358,9 @@ impl<S: ObjectStore> Rank<S> {
         self.fault.as_ref()
     }
 
-    /// The first operation that is sent and not acknowledged, and its object.
+    /// The operation that is sent and not acknowledged with the least number, and its object.
     pub fn oldest_sent(&self) -> Option<(OpNo, ObjectName)>
-        ensures { result ≡ oldest_write self.now.log.writes.items }
+        ensures { result ≡ oldest_sent self.now.log }
     {
         self.log.oldest_sent()
     }

@@ -4,8 +4,8 @@ ghost use Rattle.std.specs.Prelude.{◌≡◌, Some};
 ghost use Rattle.mj_rank.specs.Refusals.{IsDown, SaysOfAppend};
 
 use crate::answers::Fault;
-use crate::log::AppendRefusal;
 use mj_base::Damage;
+use mj_journaler::AppendRefusal;
 use mj_store::{ReadRefusal, StoreFault, SubmitRefusal};
 use std::alloc::AllocError;
 
@@ -49,6 +49,7 @@ impl RankRefusal {
         match refusal {
             AppendRefusal::Full(bytes) => RankRefusal::LogFull(bytes, Sealed::new()),
             AppendRefusal::Spent(position) => RankRefusal::PositionSpent(position, Sealed::new()),
+            AppendRefusal::Memory => RankRefusal::Memory,
         }
     }
 }

@@ -1,5 +1,5 @@
 -- The number of a mount and of a rank, which no call changes.
-use Rattle.std.proofs.Common.{◌≡◌, Bool, true, false, Option, Some, None, refl, ap, ◌∙◌}
+use Rattle.std.proofs.Common.{◌≡◌, Option, Some, None, refl, ap, ◌∙◌}
 use Rattle.mj_event.specs.declared.Event.{Event}
 use Rattle.mj_tree.specs.declared.change.Decision.{Decision}
 use Rattle.mj_tree.specs.declared.request.ClientRequest.{ClientRequest}
@@ -12,7 +12,8 @@ use Rattle.mj_rank.specs.declared.rank.Rank.{Rank}
 use Rattle.mj_rank.specs.Mounts.{KeepsFound, first_value}
 use Rattle.mj_rank.specs.Request.{RankValue, value_of, decided, event_in, with_answer, after_request}
 use Rattle.mj_rank.specs.Sending.{Sends, Flushes, Acknowledges}
-use Rattle.std.specs.Prelude.{◌==◌}
+use Rattle.mj_journaler.specs.Calls.{flush_of}
+use Rattle.mj_journaler.specs.declared.sent.Offer.{Offer}
 
 -- ---- of a rank
 
@@ -27,12 +28,12 @@ number_is old new v e h = ap (λ (x : RankValue). x.number) e ∙ h
 pub number_after : {S : Type 0} (old new : Rank S) (r : ClientRequest) → value_of new ≡ after_request (value_of old) r → new.number ≡ old.number
 number_after old new r e = number_is old new (after_request (value_of old) r) e (of_answer (value_of old) r (decided (value_of old) r) (event_in (value_of old) r))
 
-sent_number : {S : Type 0} (state : S → Option StoreState) (b : Bool) (old new : Rank S) → Sends state b old new → new.number ≡ old.number
-sent_number state true old new h = ap (λ (x : RankValue). x.number) h.0
-sent_number state false old new h = ap (λ (x : RankValue). x.number) h.1
+sent_number : {S : Type 0} (state : S → Option StoreState) (write : Option Offer) (old new : Rank S) → Sends state write old new → new.number ≡ old.number
+sent_number state None old new h = ap (λ (x : RankValue). x.number) h.0
+sent_number state (Some write) old new h = ap (λ (x : RankValue). x.number) h.1
 
 pub number_flushed : {S : Type 0} (state : S → Option StoreState) (span : Span) (old new : Rank S) → Flushes state span old new → new.number ≡ old.number
-number_flushed state span old new h = sent_number state (span.to == span.from) old new h.1
+number_flushed state span old new h = sent_number state (flush_of (value_of old).log) old new h.1
 
 pub number_reaped : {S : Type 0} (reaped : Reaped) (old new : Rank S) → Acknowledges reaped old new → new.number ≡ old.number
 number_reaped (One op from to) old new h = ap (λ (x : RankValue). x.number) h.0

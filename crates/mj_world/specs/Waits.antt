@@ -1,4 +1,4 @@
--- How often a mount waits for its header.
+-- How often a mount waits for a header or a truncation.
 use Rattle.std.specs.Prelude.{◌≡◌, ℕ, Option, Some, List, Ok}
 use Rattle.mj_base.specs.declared.object.ObjectName.{ObjectName}
 use Rattle.mj_store.specs.Causes.{Listed}

@@ -19,6 +19,12 @@ carries-smaller-in-Ok-Sent g c =
     let less : left c.carry.new.world < left c.carries.world = rw c.in-Ok-Sent.field-0-is at (c.in-Ok-Sent.ensures.carried.leaves 0 since) in
     omega arith
 
+pub carries-smaller-in-Ok-Reaped : goal.carries-smaller-in-Ok-Reaped
+carries-smaller-in-Ok-Reaped g c =
+    let since = so_far_since g.S.ObjectStore.state g.S.ObjectStore.faults g.S.ObjectStore.unreported c.carries.invariant 0 c.requires in
+    let less : left c.carry.new.world < left c.carries.world = rw c.in-Ok-Reaped.field-0-is at (c.in-Ok-Reaped.ensures.carried.leaves 0 since) in
+    omega arith
+
 pub carries-preserved-in-Ok-Sent : goal.carries-preserved-in-Ok-Sent
 carries-preserved-in-Ok-Sent g c = comes_sent g.S.ObjectStore.state g.S.ObjectStore.faults g.S.ObjectStore.unreported _ _ _ c.carries.invariant (rw c.in-Ok-Sent.field-0-is at c.in-Ok-Sent.ensures.carried)
 

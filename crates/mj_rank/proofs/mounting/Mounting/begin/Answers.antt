@@ -1,4 +1,8 @@
-use Rattle.std.proofs.Common.{None, refl}
+use Rattle.std.proofs.Common.{None, ap, ◌∙◌}
+use Rattle.std.specs.Prelude.{map}
+use Rattle.mj_store.specs.Causes.{Listed}
+use Rattle.mj_store.proofs.Counts.{counted_same}
+use Rattle.mj_tree.specs.Meaning.{state_of}
 use Rattle.mj_rank.specs.declared.mounting.Stage.TheVariants.{Announcing}
 use Rattle.mj_rank.proofs.MountCalls.{stop_stays, stop_stops, mount_begins}
 use Rattle.mj_rank.proofs.mounting.Mounting.begin.Goals as goal
@@ -16,18 +20,30 @@ pub returns-in-Err-log-clause-stops_refused : goal.returns-in-Err-log-clause-sto
 returns-in-Err-log-clause-stops_refused g c = λ m t. stop_stops g.S.ObjectStore.state c.args.store _ c.args.number m c.read_found.ensures.stays t
 
 pub returns-clause-live : goal.returns-clause-live
-returns-clause-live g c = λ m t. mount_begins g.S.ObjectStore.state c.args.store c.args.number m
-    (record {
-      store = c.read_found.new.store;
+returns-clause-live g c = λ m t. mount_begins g.S.ObjectStore.state c.args.store c.read_found.new.store c.args.number m c.in-Ok.found 0 _
+    (λ z. record {
       number = c.args.number;
-      header = c.next_header-header.result;
-      found = c.in-Ok.found;
-      log = c.in-Ok-log.log;
+      header = c.next_header-header.ensures z;
+      found = c.in-Ok.found.header;
+      tail = c.in-Ok.found.tail;
+      tree = state_of c.in-Ok.found.tree;
+      root_version = c.in-Ok.found.root_version;
+      log = c.in-Ok-log.ensures z;
       stage = Announcing;
       sent = 0;
+      next = c.new-cuts.ensures.next z;
+      end = c.new-cuts.ensures.end z;
+      out = c.new-cuts.ensures.out z;
       fault = None;
-    }) c.read_found.ensures.stays c.in-Ok.ensures.told
-    (record { number = refl; header = c.next_header-header.ensures; log = c.in-Ok-log.ensures; stage = refl; fault = refl }) t
+    }) c.read_found.ensures.stays c.in-Ok.ensures.told t
 
 pub returns-clause-stops : goal.returns-clause-stops
 returns-clause-stops g c = λ m t. stop_stops g.S.ObjectStore.state c.args.store _ c.args.number m c.read_found.ensures.stays t
+
+pub returns-clause-since : goal.returns-clause-since
+returns-clause-since g c = λ base none counted. record {
+  counted = counted_same c.read_found.ensures.later c.read_found.ensures.same_list counted;
+  down = tt;
+  listed = λ up. record { same = ap (map (λ (l : Listed). l.op)) (c.read_found.ensures.same_list ∙ none); once = tt };
+  out = c.new-cuts.ensures.out;
+}

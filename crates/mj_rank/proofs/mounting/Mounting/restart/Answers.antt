@@ -6,7 +6,7 @@ use Rattle.mj_rank.proofs.SinceLemmas.{mount_since_same}
 use Rattle.mj_rank.proofs.mounting.Mounting.restart.Goals as goal
 
 pub returns-in-Err-clause-since : goal.returns-in-Err-clause-since
-returns-in-Err-clause-since g c = λ base h. mount_since_same base c.args.self _ c.restart.ensures.later c.in-Err.ensures.same_list refl refl refl h
+returns-in-Err-clause-since g c = λ base h. mount_since_same base c.args.self _ c.restart.ensures.later h.out h c.in-Err.ensures.same_list refl refl
 
 pub returns-in-Ok-clause-live : goal.returns-in-Ok-clause-live
 returns-in-Ok-clause-live g c = λ m t. mount_stopped g.S.ObjectStore.state c.args.self m c.into_store.result c.into_store.ensures c.in-Ok.ensures.ok t

@@ -2,7 +2,9 @@ use Rattle.mj_store.proofs.Paths.{goes_itself, goes_reaps}
 use Rattle.std.proofs.Common.{None, Some}
 use Rattle.mj_rank.specs.Request.{value_of}
 use Rattle.mj_rank.proofs.Living.{value_stays, value_reported, rank_down, rank_acked, stops_by, stops_down}
-use Rattle.std.proofs.Common.{refl}
+use Rattle.std.proofs.Common.{refl, ap}
+use Rattle.mj_rank.specs.Log.{log_value}
+use Rattle.mj_rank.proofs.Out.{listed_acked}
 use Rattle.mj_rank.proofs.SinceLemmas.{rank_since_same, rank_since_down_by, rank_since_reported, reaps_done}
 use Rattle.mj_rank.proofs.rank.Rank.reap.Goals as goal
 
@@ -11,10 +13,12 @@ returns-then-not-done-clause-since g c = λ base h.
     rank_since_down_by base c.args.self.now _ _ _ c.goes_down.ensures.store c.goes_down.ensures.fault c.reap.ensures.later h _ c.in-Some.ensures.reported c.if-not-done.true
 
 pub returns-in-None-clause-since : goal.returns-in-None-clause-since
-returns-in-None-clause-since g c = λ base h. rank_since_same base c.args.self.now _ c.reap.ensures.later c.in-None.ensures.same_list refl h
+returns-in-None-clause-since g c = λ base h. rank_since_same base c.args.self.now _ c.reap.ensures.later c.in-None.ensures.same_list refl refl h
 
 pub returns-else-not-done-clause-since : goal.returns-else-not-done-clause-since
-returns-else-not-done-clause-since g c = λ base h. rank_since_reported base c.args.self.now _ _ c.reap.ensures.later c.in-Some.ensures.reported refl h
+returns-else-not-done-clause-since g c = λ base h.
+    rank_since_reported {faults = g.S.ObjectStore.faults} {unreported = g.S.ObjectStore.unreported} base c.args.self.now _ _ c.reap.ensures.later c.in-Some.ensures.reported refl
+    (λ all. listed_acked (g.S.ObjectStore.unreported c.args.self.now.store) (g.S.ObjectStore.unreported c.reap.new.self) _ c.args.self.now.log c.acked-from.new.self c.in-Some.ensures.reported.rest c.acked-from.ensures.is all) h
 
 pub returns-else-not-done-clause-told : goal.returns-else-not-done-clause-told
 returns-else-not-done-clause-told g c = reaps_done _ (g.S.ObjectStore.state c.args.self.now.store) (g.S.ObjectStore.state c.reap.new.self) c.if-not-done.false c.in-Some.ensures.told
@@ -37,7 +41,7 @@ returns-in-None-clause-stops g c = λ m t. stops_by g.S.ObjectStore.state c.args
 
 pub returns-else-not-done-clause-live : goal.returns-else-not-done-clause-live
 returns-else-not-done-clause-live g c = λ m t.
-    rank_acked g.S.ObjectStore.state c.args.self.now m _ _ _ c.acked.ensures c.safe_pos-safe_to.ensures (reaps_done _ (g.S.ObjectStore.state c.args.self.now.store) (g.S.ObjectStore.state c.reap.new.self) c.if-not-done.false c.in-Some.ensures.told) t
+    rank_acked g.S.ObjectStore.state c.args.self.now m _ _ _ (ap log_value c.acked-from.ensures.is) c.acked-from.ensures.to (reaps_done _ (g.S.ObjectStore.state c.args.self.now.store) (g.S.ObjectStore.state c.reap.new.self) c.if-not-done.false c.in-Some.ensures.told) t
 
 pub returns-else-not-done-clause-stops : goal.returns-else-not-done-clause-stops
 returns-else-not-done-clause-stops g c = λ m t. stops_by g.S.ObjectStore.state c.args.self.now m (goes_reaps (Some _) c.in-Some.ensures.told) t

@@ -8,7 +8,7 @@ use Rattle.mj_store.specs.Moves.{Restarts}
 use Rattle.mj_rank.proofs.rank.Rank.restart.Goals as goal
 
 pub returns-in-Err-clause-since : goal.returns-in-Err-clause-since
-returns-in-Err-clause-since g c = λ base h. rank_since_same base c.args.self _ c.restart.ensures.later (c.in-Err.ensures.same_list) refl h
+returns-in-Err-clause-since g c = λ base h. rank_since_same base c.args.self _ c.restart.ensures.later (c.in-Err.ensures.same_list) refl refl h
 
 pub returns-in-Ok-clause-live : goal.returns-in-Ok-clause-live
 returns-in-Ok-clause-live g c = store_stopped g.S.ObjectStore.state c.args.self c.into_store.result c.into_store.ensures c.in-Ok.ensures.ok

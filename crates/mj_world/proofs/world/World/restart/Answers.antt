@@ -1,5 +1,6 @@
 use Rattle.std.proofs.Common.{sym, subst, ◌∙◌}
 use Rattle.mj_store.proofs.Paths.{goes_stays, goes_restarts}
+use Rattle.mj_rank.specs.Live.{StopLives}
 use Rattle.mj_world.specs.World.{PhaseSince}
 use Rattle.mj_world.specs.declared.world.Phase.TheVariants.{Stopped, Mounting, Serving}
 use Rattle.mj_world.proofs.Between.{goes_on, stops_in}
@@ -36,6 +37,11 @@ returns-in-Err-clause-stops g c = λ m.
 
 -- ---- of a mount
 
+pub returns-in-Ok-restart-clause-live : goal.returns-in-Ok-restart-clause-live
+returns-in-Ok-restart-clause-live g c = λ m.
+    goes_on g.S.ObjectStore.state c.args.self.now c.put-in-Ok-restart.new.self (Mounting c.in-Mounting.mounting) (Stopped c.in-Ok-restart.store) (sym c.replace.ensures.value ∙ c.in-Mounting.is) c.put-in-Ok-restart.ensures.phase c.put-in-Ok-restart.ensures.number m m
+    (λ t. subst (λ number. StopLives g.S.ObjectStore.state c.in-Ok-restart.store number m) t.0 (c.in-Ok-restart.ensures.live m t.1))
+
 pub returns-in-Ok-restart-clause-stops : goal.returns-in-Ok-restart-clause-stops
 returns-in-Ok-restart-clause-stops g c = λ m.
     stops_in g.S.ObjectStore.state c.args.self.now c.put-in-Ok-restart.new.self (Mounting c.in-Mounting.mounting) (Stopped c.in-Ok-restart.store) (sym c.replace.ensures.value ∙ c.in-Mounting.is) c.put-in-Ok-restart.ensures.phase c.put-in-Ok-restart.ensures.number m
@@ -52,6 +58,11 @@ returns-in-Err-restart-clause-stops g c = λ m.
     (mount_goes g.S.ObjectStore.state c.args.self.now.number m c.in-Mounting.mounting (c.in-Err-restart.ensures.stops_refused m))
 
 -- ---- of a rank
+
+pub returns-in-Err-restart-2-clause-since : goal.returns-in-Err-restart-2-clause-since
+returns-in-Err-restart-2-clause-since g c = λ base h.
+    subst (PhaseSince g.S.ObjectStore.faults g.S.ObjectStore.unreported base) (sym c.put-in-Err-restart-2.ensures.phase)
+    (c.in-Err-restart-2.ensures.since base (subst (PhaseSince g.S.ObjectStore.faults g.S.ObjectStore.unreported base) (sym c.replace.ensures.value ∙ c.in-Serving.is) h))
 
 pub returns-in-Err-restart-2-clause-live : goal.returns-in-Err-restart-2-clause-live
 returns-in-Err-restart-2-clause-live g c = λ m.
