@@ -1,4 +1,4 @@
-//! The program: plays a script over the store that its first word names.
+//! The program: formats the store of the image file that its first word names, or plays a script over it.
 #![tactic(auto)]
 
 use mj_app::mdjournal_image_call;

@@ -191,7 +191,7 @@ module _ {S : Type 0} (state : S → Option StoreState) (faults : S → ℕ) (un
   acts_live m old [] worlds lives = lives
   acts_live m old (a ∷ acts) worlds lives = acts_live (machine_after m a.step a.result) a.left acts worlds.1 (worlds.0.live m lives)
 
-  pub acts_stop : (m : LogMachine) (old : World S) (acts : List (Act S)) → Worlds state faults unreported old acts → old.number ≡ 0 → WorldLives state old m → StopsIn state old m acts
-  acts_stop m old [] worlds zero lives = tt
-  acts_stop m old (a ∷ acts) worlds zero lives =
-      (subst (λ n. StopsSafely n m (told state old) (told state a.left)) zero (worlds.0.stops m lives), acts_stop (machine_after m a.step a.result) a.left acts worlds.1 (worlds.0.number ∙ zero) (worlds.0.live m lives))
+  pub acts_stop : (rank : ℕ) (m : LogMachine) (old : World S) (acts : List (Act S)) → Worlds state faults unreported old acts → old.number ≡ rank → WorldLives state old m → StopsIn state rank old m acts
+  acts_stop rank m old [] worlds number lives = tt
+  acts_stop rank m old (a ∷ acts) worlds number lives =
+      (subst (λ n. StopsSafely n m (told state old) (told state a.left)) number (worlds.0.stops m lives), acts_stop rank (machine_after m a.step a.result) a.left acts worlds.1 (worlds.0.number ∙ number) (worlds.0.live m lives))

@@ -1,4 +1,4 @@
--- Whatever a stop may leave of a world that lives recovers to a front, and so it is before the first line.
+-- Whatever a stop may leave of a world that lives recovers to a front and is at rest, and so it is before the first line.
 use Rattle.std.proofs.Common.{◌≡◌, ℕ, [], Option, sym, subst}
 use Rattle.mj_tree.specs.State.{PlainState}
 use Rattle.mj_tree.specs.Meaning.{state_of}
@@ -12,13 +12,14 @@ use Rattle.mj_rank.specs.Live.{LeavesFronts, Rested, Recovers, StopLives, StopsS
 use Rattle.mj_rank.specs.Log.{log_value}
 use Rattle.mj_rank.specs.Mounts.{mount_value}
 use Rattle.mj_rank.proofs.Crashes.{lives_leave}
-use Rattle.mj_rank.proofs.MountLives.{mounted_leaves}
-use Rattle.mj_rank.proofs.Stopping.{rested_leaves, rested_tried, rested_stopped}
+use Rattle.mj_rank.proofs.MountLives.{mounted_leaves, mounted_stopped}
+use Rattle.mj_rank.proofs.Stopping.{lives_stopped, rested_leaves, rested_tried, rested_stopped}
 use Rattle.mj_world.specs.Live.{PhaseLives, WorldLives, told, told_in}
 use Rattle.mj_world.specs.World.{StoreHas}
 use Rattle.mj_world.specs.declared.world.Phase.{Phase}
 use Rattle.mj_world.specs.declared.world.Phase.TheVariants as phase
 use Rattle.mj_world.specs.declared.world.World.{World}
+use Rattle.mj_app.specs.Headline.{RestsAgain}
 use Rattle.mj_app.specs.Worlds.{Opens, HoldsStore}
 
 module _ {S : Type 0} (state : S → Option StoreState) where
@@ -38,20 +39,36 @@ module _ {S : Type 0} (state : S → Option StoreState) where
   held_tells store (phase.Serving k) is = λ i. state (is i)
   held_tells store phase.Gone is = absurd is
 
+  rests_in : (number : ℕ) (m : LogMachine) (p : Phase S) → PhaseLives state number m p → Tells (told_in state p) (RestsAgain number m)
+  rests_in number m (phase.Stopped store) t = record { now = t.now; is = t.is; holds = λ image may. rested_stopped number m t.now t.holds image may }
+  rests_in number m (phase.Mounting k) h =
+      let t = h.1 in
+      record { now = t.now; is = t.is; holds = subst (λ n. RestsAgain n m t.now) h.0 (λ image may. mounted_stopped (mount_value k) m t.now t.holds.mounted image may) }
+  rests_in number m (phase.Serving k) h =
+      let t = h.1 in
+      record { now = t.now; is = t.is; holds = subst (λ n. RestsAgain n m t.now) h.0 (λ image may. lives_stopped k.number (log_value k.log) (state_of k.tree) k.root_version m t.now image may t.holds) }
+  rests_in number m phase.Gone h = absurd h
+
   -- the store that is handed back
-  pub world_leaves : (world : World S) (store : S) (m : LogMachine) → world.number ≡ 0 → HoldsStore world store → WorldLives state world m → Tells (state store) (LeavesFronts 0 m)
-  world_leaves world store m zero holds lives =
-      subst (λ o. Tells o (LeavesFronts 0 m)) (held_tells store world.phase holds) (subst (λ n. Tells (told state world) (LeavesFronts n m)) zero (leaves_in world.number m world.phase lives))
+  module _ (rank : ℕ) (world : World S) (store : S) (m : LogMachine) (number : world.number ≡ rank) (holds : HoldsStore world store) (lives : WorldLives state world m) where
+    pub world_leaves : Tells (state store) (LeavesFronts rank m)
+    world_leaves = subst (λ o. Tells o (LeavesFronts rank m)) (held_tells store world.phase holds) (subst (λ n. Tells (told state world) (LeavesFronts n m)) number (leaves_in world.number m world.phase lives))
+
+    pub world_rests : Tells (state store) (RestsAgain rank m)
+    world_rests = subst (λ o. Tells o (RestsAgain rank m)) (held_tells store world.phase holds) (subst (λ n. Tells (told state world) (RestsAgain n m)) number (rests_in world.number m world.phase lives))
 
   -- the first world
-  pub opens_lives : (store : S) (world : World S) (m : LogMachine) → Opens store world → StopLives state store 0 m → WorldLives state world m
-  opens_lives store world m o lives = subst (PhaseLives state world.number m) (sym o.phase) (subst (λ n. StopLives state store n m) (sym o.number) lives)
+  pub opens_lives : (rank : ℕ) (store : S) (world : World S) (m : LogMachine) → Opens rank store world → StopLives state store rank m → WorldLives state world m
+  opens_lives rank store world m o lives = subst (PhaseLives state world.number m) (sym o.phase) (subst (λ n. StopLives state store n m) (sym o.number) lives)
 
 -- ---- a stopped store
 
 module _ (rank : ℕ) (m : LogMachine) {old : Option StoreState} (t : Tells old (Rested rank m)) where
   pub rested_tells : Tells old (LeavesFronts rank m)
   rested_tells = record { now = t.now; is = t.is; holds = rested_leaves rank m t.now t.holds }
+
+  pub rested_again : Tells old (RestsAgain rank m)
+  rested_again = record { now = t.now; is = t.is; holds = λ image may. rested_stopped rank m t.now t.holds image may }
 
   pub rested_restarts : {new : Option StoreState} → Restarts old new → Tells new (Rested rank m)
   rested_restarts restarts = restarts_keeps (Rested rank m) (Rested rank m) (λ name s h. rested_tried rank m s h name) (λ image s im h. rested_stopped rank m s h image im) restarts t

@@ -3,6 +3,9 @@ pub mod WorldsLemmas
 pub mod MountActs
 pub mod RunLemmas
 pub mod CallLemmas
+pub mod WordsLemmas
+pub mod FormatsLemmas
+pub mod ImageLemmas
 pub mod TurnTexts
 pub mod Fits
 pub mod MadeFits
@@ -12,4 +15,3 @@ pub mod NeverWaits
 pub mod LinesRead
 pub mod Leaving
 pub mod HeadlineLemmas
-pub mod FormattedLemmas

@@ -56,39 +56,39 @@ goes_turned m line.Mount acts None w t goes waits = absurd goes
 
 -- ---- lines
 
-module _ {S : Type 0} (state : S → Option StoreState) (faults : S → ℕ) (unreported : S → List Listed) where
+module _ {S : Type 0} (state : S → Option StoreState) (faults : S → ℕ) (unreported : S → List Listed) (rank : ℕ) where
   -- these lines have their texts, and one behind them may have none
   pub record Read (n : ℕ) (m : LogMachine) (old : World S) (ws : List (Worked S)) (unsaid : Option (Worked S)) : Type 0 where
     pub works : EachWorked state faults unreported old ws
     pub cut : WorkedIf state faults unreported (world_behind old ws) unsaid
     pub agree : AllAgree m (turns_of ws)
     pub text : all_said n ws ≡ text_from n m (turns_of ws)
-    pub stops : StopsAmong state old m ws
-    pub stops_unsaid : StopsIn state (world_behind old ws) (after_turns m (turns_of ws)) (acts_in unsaid)
+    pub stops : StopsAmong state rank old m ws
+    pub stops_unsaid : StopsIn state rank (world_behind old ws) (after_turns m (turns_of ws)) (acts_in unsaid)
     pub untold : List Step
     pub machine : run (after_turns m (turns_of ws)) untold ≡ machine_by (machine_behind m ws) (acts_in unsaid)
     pub lives : WorldLives state (world_after (world_behind old ws) (acts_in unsaid)) (machine_by (machine_behind m ws) (acts_in unsaid))
-    pub number : (world_after (world_behind old ws) (acts_in unsaid)).number ≡ 0
+    pub number : (world_after (world_behind old ws) (acts_in unsaid)).number ≡ rank
 
-  pub read_none : (n : ℕ) (m : LogMachine) (old : World S) → WorldLives state old m → old.number ≡ 0 → Read n m old [] None
-  read_none n m old lives zero = record { works = tt; cut = tt; agree = tt; text = refl; stops = tt; stops_unsaid = tt; untold = []; machine = refl; lives = lives; number = zero }
+  pub read_none : (n : ℕ) (m : LogMachine) (old : World S) → WorldLives state old m → old.number ≡ rank → Read n m old [] None
+  read_none n m old lives numbered = record { works = tt; cut = tt; agree = tt; text = refl; stops = tt; stops_unsaid = tt; untold = []; machine = refl; lives = lives; number = numbered }
 
   -- the last line has its text
-  pub read_said : (n : ℕ) (m : LogMachine) (old : World S) (l : Line) (acts : List (Act S)) (a : Answer) → Works state faults unreported old (with_told l acts (Some a)) → WorldLives state old m → old.number ≡ 0
+  pub read_said : (n : ℕ) (m : LogMachine) (old : World S) (l : Line) (acts : List (Act S)) (a : Answer) → Works state faults unreported old (with_told l acts (Some a)) → WorldLives state old m → old.number ≡ rank
       → Read n m old (with_told l acts (Some a) ∷ []) None
-  read_said n m old l acts a w lives zero =
+  read_said n m old l acts a w lives numbered =
       let t = told_turned m l acts a (line_reads state faults unreported l m old acts (Some a) w.worlds w.acts lives) in
       record {
         works = (w, tt);
         cut = tt;
         agree = (t.fits, t.agrees, tt);
         text = ap (λ x. x ++ []) (t.text n);
-        stops = (acts_stop state faults unreported m old acts w.worlds zero lives, tt);
+        stops = (acts_stop state faults unreported rank m old acts w.worlds numbered lives, tt);
         stops_unsaid = tt;
         untold = t.untold;
         machine = t.comes;
         lives = acts_live state faults unreported m old acts w.worlds lives;
-        number = acts_number state faults unreported old acts w.worlds ∙ zero;
+        number = acts_number state faults unreported old acts w.worlds ∙ numbered;
       }
 
   -- it has none
@@ -96,8 +96,8 @@ module _ {S : Type 0} (state : S → Option StoreState) (faults : S → ℕ) (un
   comes_of l m now (Some a) t = record { steps = step_of (line_in_script l, said_of a) ∷ t.untold; comes = t.comes }
   comes_of l m now None c = c
 
-  pub read_unsaid : (n : ℕ) (m : LogMachine) (old : World S) (w : Worked S) → Works state faults unreported old w → WorldLives state old m → old.number ≡ 0 → Read n m old [] (Some w)
-  read_unsaid n m old w works lives zero =
+  pub read_unsaid : (n : ℕ) (m : LogMachine) (old : World S) (w : Worked S) → Works state faults unreported old w → WorldLives state old m → old.number ≡ rank → Read n m old [] (Some w)
+  read_unsaid n m old w works lives numbered =
       let c = comes_of w.line m (machine_by m w.acts) w.told (line_reads state faults unreported w.line m old w.acts w.told works.worlds works.acts lives) in
       record {
         works = tt;
@@ -105,22 +105,22 @@ module _ {S : Type 0} (state : S → Option StoreState) (faults : S → ℕ) (un
         agree = tt;
         text = refl;
         stops = tt;
-        stops_unsaid = acts_stop state faults unreported m old w.acts works.worlds zero lives;
+        stops_unsaid = acts_stop state faults unreported rank m old w.acts works.worlds numbered lives;
         untold = c.steps;
         machine = c.comes;
         lives = acts_live state faults unreported m old w.acts works.worlds lives;
-        number = acts_number state faults unreported old w.acts works.worlds ∙ zero;
+        number = acts_number state faults unreported old w.acts works.worlds ∙ numbered;
       }
 
   -- a line before, after which the script went on
-  read_more : (n : ℕ) (m : LogMachine) (old : World S) (w : Worked S) (ws : List (Worked S)) (unsaid : Option (Worked S)) → Works state faults unreported old w → TurnedWhole m w → WorldLives state old m → old.number ≡ 0
+  read_more : (n : ℕ) (m : LogMachine) (old : World S) (w : Worked S) (ws : List (Worked S)) (unsaid : Option (Worked S)) → Works state faults unreported old w → TurnedWhole m w → WorldLives state old m → old.number ≡ rank
       → Read (n + 1) (stepped m (step_of (turn_of w))) (world_after old w.acts) ws unsaid → Read n m old (w ∷ ws) unsaid
-  read_more n m old w ws unsaid works t lives zero r = record {
+  read_more n m old w ws unsaid works t lives numbered r = record {
     works = (works, r.works);
     cut = r.cut;
     agree = (t.turned.fits, t.turned.agrees, r.agree);
     text = ap (λ x. x ++ all_said (n + 1) ws) (t.turned.text n) ∙ ap (λ x. turn_text n m (turn_of w) ++ x) r.text;
-    stops = (acts_stop state faults unreported m old w.acts works.worlds zero lives, r.stops);
+    stops = (acts_stop state faults unreported rank m old w.acts works.worlds numbered lives, r.stops);
     stops_unsaid = r.stops_unsaid;
     untold = r.untold;
     machine = r.machine ∙ ap (λ x. machine_by (machine_behind x ws) (acts_in unsaid)) t.exact;
@@ -129,12 +129,12 @@ module _ {S : Type 0} (state : S → Option StoreState) (faults : S → ℕ) (un
   }
 
   -- the lines after which the script went on, and what is read behind them
-  pub reads : (n : ℕ) (m : LogMachine) (old : World S) (ws vs : List (Worked S)) (unsaid : Option (Worked S)) → AllWorked state faults unreported old ws → WorldLives state old m → old.number ≡ 0
-      → ((n : ℕ) (m : LogMachine) → WorldLives state (world_behind old ws) m → (world_behind old ws).number ≡ 0 → Read n m (world_behind old ws) vs unsaid) → Read n m old (ws ++ vs) unsaid
-  reads n m old [] vs unsaid all lives zero ending = ending n m lives zero
-  reads n m old (w ∷ ws) vs unsaid all lives zero ending =
+  pub reads : (n : ℕ) (m : LogMachine) (old : World S) (ws vs : List (Worked S)) (unsaid : Option (Worked S)) → AllWorked state faults unreported old ws → WorldLives state old m → old.number ≡ rank
+      → ((n : ℕ) (m : LogMachine) → WorldLives state (world_behind old ws) m → (world_behind old ws).number ≡ rank → Read n m (world_behind old ws) vs unsaid) → Read n m old (ws ++ vs) unsaid
+  reads n m old [] vs unsaid all lives numbered ending = ending n m lives numbered
+  reads n m old (w ∷ ws) vs unsaid all lives numbered ending =
       let t : TurnedWhole m w = goes_turned m w.line w.acts w.told all.0.acts (line_reads state faults unreported w.line m old w.acts w.told all.0.worlds all.0.acts lives) all.1 (line_never_waits state faults unreported w.line old w.acts m w.told all.0.worlds all.0.acts lives) in
-      read_more n m old w (ws ++ vs) unsaid all.0 t lives zero
+      read_more n m old w (ws ++ vs) unsaid all.0 t lives numbered
       (reads (n + 1) (stepped m (step_of (turn_of w))) (world_after old w.acts) ws vs unsaid all.2
       (subst (WorldLives state (world_after old w.acts)) (sym t.exact) (acts_live state faults unreported m old w.acts all.0.worlds lives))
-      (acts_number state faults unreported old w.acts all.0.worlds ∙ zero) ending)
+      (acts_number state faults unreported old w.acts all.0.worlds ∙ numbered) ending)

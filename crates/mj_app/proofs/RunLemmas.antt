@@ -10,7 +10,7 @@ use Rattle.mj_lines.specs.declared.line.Line.{Line}
 use Rattle.mj_lines.specs.declared.answer.Answer.{Answer}
 use Rattle.mj_lines.specs.declared.answer.Answer.TheVariants as answer
 use Rattle.mj_app.specs.declared.status.Status.{Status}
-use Rattle.mj_app.specs.declared.status.Status.TheVariants.{Done, Damage, Words, Memory, Store, Files, Grammar, Sink}
+use Rattle.mj_app.specs.declared.status.Status.TheVariants.{Done, Damage, Words, Refused, Memory, Store, Files, Grammar, Sink}
 use Rattle.mj_app.specs.Answers.{GoesOn}
 use Rattle.mj_app.specs.Took.{SinkState, TookAll}
 use Rattle.mj_app.specs.LineActs.{LineActs}
@@ -119,6 +119,7 @@ module _ {S : Type 0} (state : S → Option StoreState) (faults : S → ℕ) (un
   run_ends Done i lines line {told} old middle new first at last u e w ends = absurd (no_end Done (i + 1) told middle new ends (λ a h. h) (λ h. h))
   run_ends Damage i lines line old middle new first at last u e w ends = ends_at Damage i lines line old middle new first at last u e w ends
   run_ends Words i lines line {told} old middle new first at last u e w ends = absurd (no_end Words (i + 1) told middle new ends (λ a h. h) (λ h. h))
+  run_ends Refused i lines line {told} old middle new first at last u e w ends = absurd (no_end Refused (i + 1) told middle new ends (λ a h. h) (λ h. h))
   run_ends Memory i lines line old middle new first at last u e w ends = ends_at Memory i lines line old middle new first at last u e w ends
   run_ends Store i lines line old middle new first at last u e w ends = ends_at Store i lines line old middle new first at last u e w ends
   run_ends Files i lines line {told} old middle new first at last u e w ends = absurd (no_end Files (i + 1) told middle new ends (λ a h. h) (λ h. h))
@@ -137,8 +138,8 @@ module _ {S : Type 0} (state : S → Option StoreState) (faults : S → ℕ) (un
   -- ---- a fault of the store
 
   -- a run that ends with one has seen the store's count rise
-  pub run_failed : (before after : S) (lines : List Line) (old new : SinkState) → OverRestarted state faults unreported before after (EndsAt state faults unreported Store lines old new) → Rose (faults before) (faults after)
-  run_failed before after lines old new o = by o.over.says.ending.told refl o.over.says.ends
+  pub run_failed : (rank : ℕ) (before after : S) (lines : List Line) (old new : SinkState) → OverRestarted state faults unreported rank before after (EndsAt state faults unreported Store lines old new) → Rose (faults before) (faults after)
+  run_failed rank before after lines old new o = by o.over.says.ending.told refl o.over.says.ends
     where
       open_since : WorldSince faults unreported (faults before) (world_behind o.over.first o.over.says.worked)
       open_since = behind_since o.over.first o.over.says.worked o.over.says.works (faults before) (opens_since faults unreported o.store o.over.first o.over.opens o.restarted.none (faults before) o.restarted.later)

@@ -160,8 +160,8 @@ first_fine line.Mount = tt
 -- ---- worlds
 
 -- a store that was just restarted has reported everything
-pub opens_since : {S : Type 0} (faults : S → ℕ) (unreported : S → List Listed) (store : S) (world : World S) → Opens store world → unreported store ≡ [] → (base : ℕ) → base ≤ faults store → WorldSince faults unreported base world
-opens_since faults unreported store world o none base le =
+pub opens_since : {S : Type 0} {rank : ℕ} (faults : S → ℕ) (unreported : S → List Listed) (store : S) (world : World S) → Opens rank store world → unreported store ≡ [] → (base : ℕ) → base ≤ faults store → WorldSince faults unreported base world
+opens_since {S} {rank} faults unreported store world o none base le =
     let counted : Counted base (faults store) (unreported store) = subst (Counted base (faults store)) (sym none) (record { later = le; since = λ l there. absurd there }) in
     subst (PhaseSince faults unreported base) (sym o.phase) (record { counted = counted; none = none })
 

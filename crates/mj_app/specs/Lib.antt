@@ -1,13 +1,17 @@
 pub mod Status
 pub mod Took
 pub mod Say
+pub mod Words
+pub mod WordsRead
 pub mod Read
 pub mod Told
 pub mod Worlds
 pub mod LineActs
 pub mod Answers
 pub mod Run
+pub mod Formats
 pub mod Call
 pub mod Turns
 pub mod Headline
+pub mod ImageFile
 pub mod Image

@@ -137,10 +137,10 @@ module _ {S : Type 0} (state : S → Option StoreState) (faults : S → ℕ) (un
   -- ---- over a store
 
   -- so it is over the store that was handed in, which was restarted
-  pub record OverRestarted (before after : S) (P : World S → World S → Type 0) : Type 0 where
+  pub record OverRestarted (rank : ℕ) (before after : S) (P : World S → World S → Type 0) : Type 0 where
     pub store : S
     pub restarted : IsRestarted state faults unreported before store
-    pub over : Over store after P
+    pub over : Over rank store after P
 
   -- The restart before the first line failed.
   pub record FailsToStart (s : Status) (before after : S) (old new : SinkState) : Type 0 where
@@ -148,7 +148,7 @@ module _ {S : Type 0} (state : S → Option StoreState) (faults : S → ℕ) (un
     pub rose : Rose (faults before) (faults after)
     pub text : StartEnds s (faults after) old new
 
-  abbrev pub PlaySays : Status → List Line → S → S → SinkState → SinkState → Type 0
-  PlaySays status.Store lines before after old new = OverRestarted before after (RunSays status.Store lines old new) ⊎ FailsToStart status.Store before after old new
-  PlaySays status.Memory lines before after old new = OverRestarted before after (RunSays status.Memory lines old new) ⊎ FailsToStart status.Memory before after old new
-  PlaySays s lines before after old new = OverRestarted before after (RunSays s lines old new)
+  abbrev pub PlaySays : ℕ → Status → List Line → S → S → SinkState → SinkState → Type 0
+  PlaySays rank status.Store lines before after old new = OverRestarted rank before after (RunSays status.Store lines old new) ⊎ FailsToStart status.Store before after old new
+  PlaySays rank status.Memory lines before after old new = OverRestarted rank before after (RunSays status.Memory lines old new) ⊎ FailsToStart status.Memory before after old new
+  PlaySays rank s lines before after old new = OverRestarted rank before after (RunSays s lines old new)

@@ -25,19 +25,19 @@ abbrev pub world_after : {S : Type 0} → World S → List (Act S) → World S
 world_after old [] = old
 world_after old (a ∷ acts) = world_after a.left acts
 
--- a stopped world of rank 0 over this store
-pub record Opens {S : Type 0} (store : S) (world : World S) : Type 0 where
+-- a stopped world of this rank over this store
+pub record Opens {S : Type 0} (rank : ℕ) (store : S) (world : World S) : Type 0 where
   pub phase : world.phase ≡ Stopped store
-  pub number : world.number ≡ 0
+  pub number : world.number ≡ rank
 
 abbrev pub HoldsStore : {S : Type 0} → World S → S → Type 0
 HoldsStore world store = StoreHas (λ held. held ≡ store) world.phase
 
 -- The first world stands over this store, and the last holds what is handed back.
-pub record Over {S : Type 0} (store after : S) (P : World S → World S → Type 0) : Type 0 where
+pub record Over {S : Type 0} (rank : ℕ) (store after : S) (P : World S → World S → Type 0) : Type 0 where
   pub first : World S
   pub last : World S
-  pub opens : Opens store first
+  pub opens : Opens rank store first
   pub says : P first last
   pub holds : HoldsStore last after
 

@@ -1,22 +1,25 @@
 //! The top call over a store.
 
-ghost use Rattle.std.specs.Prelude.{◌≡◌, Some};
-ghost use Rattle.mj_store.specs.State.{StoreState};
+ghost use Rattle.std.specs.Prelude.{◌≡◌, ◌≤◌, ◌↔◌, None, Some};
 ghost use Rattle.mj_app.specs.Took.{sink_state};
 ghost use Rattle.mj_app.specs.Say.{HasFixedText};
-ghost use Rattle.mj_app.specs.Call.{files_state, status_of, CallSays, EndSays, IsExact, RefusalEnds};
-ghost use Rattle.mj_app.specs.Headline.{IsFormatted, Headline};
+ghost use Rattle.mj_app.specs.Call.{files_state, status_of, CallSays, EndSays, IsExact, PlayCall, RefusalEnds};
+ghost use Rattle.mj_app.specs.Headline.{HasHeadline, HasFirstHeadline};
+ghost use Rattle.mj_app.specs.Words.{command_of, Play as play_value};
+ghost use Rattle.mj_app.specs.WordsRead.{command_value};
 
+use crate::formatting::format_store;
 use crate::play::play;
-use crate::read::{ReadRefusal, read_call};
+use crate::read::{ReadRefusal, read_lines};
 use crate::say::{Unsaid, say_refusal};
 use crate::status::Status;
-use mj_base::{Files, Sink};
+use crate::words::{Command, read_words};
+use mj_base::{Files, RankNo, Sink};
 use mj_store::ObjectStore;
 use std::alloc::Global;
 
-/// Plays the script that the words name over a store that is first restarted, and hands the store back on every path.
-/// The number is that of the `Status` with which the call ends.
+/// Does what the words say over a store that is first restarted, and hands the store back on every path: formats it, or plays a
+/// script as a rank. The number is that of the `Status` with which the call ends. No file is written.
 pub fn mdjournal_call<S: ObjectStore, F: Files, K: Sink>(
     alloc: Global,
     words: &[String],
@@ -24,26 +27,78 @@ pub fn mdjournal_call<S: ObjectStore, F: Files, K: Sink>(
     store: S,
     out: &mut K,
 ) -> (u8, S)
-    ensures says { CallSays S.state S.faults S.unreported words.now (files_state F.told F.faults files.old) (files_state F.told F.faults files.new) store result.1 (sink_state K.taken K.faults out.old) (sink_state K.taken K.faults out.new) result.0 }
-    ensures headline { (s : StoreState) → S.state store ≡ Some s → IsFormatted s →
-        Headline S.state S.faults S.unreported words.now (files_state F.told F.faults files.old) store result.1 (sink_state K.taken K.faults out.old) (sink_state K.taken K.faults out.new) result.0 }
+    ensures words { (result.0 ≡ 2) ↔ (command_of words.now ≡ None) }
+    ensures says { CallSays S.state S.faults S.unreported (command_of words.now) (files_state F.told F.faults files.old) (files_state F.told F.faults files.new) store result.1 (sink_state K.taken K.faults out.old) (sink_state K.taken K.faults out.new) result.0 }
+    ensures headline { HasHeadline S.state S.faults S.unreported (command_of words.now) (files_state F.told F.faults files.old) store result.1 (sink_state K.taken K.faults out.old) (sink_state K.taken K.faults out.new) result.0 }
+    ensures first { HasFirstHeadline S.state S.faults S.unreported (command_of words.now) (files_state F.told F.faults files.old) store result.1 (sink_state K.taken K.faults out.old) (sink_state K.taken K.faults out.new) result.0 }
+    ensures unwritten { F.told files.new ≡ F.told files.old }
+    ensures later { F.faults files.old ≤ F.faults files.new }
 {
-    let (status, store) = call(alloc, words, files, store, out);
+    match read_words(words) {
+        Some(command) => carry_out(alloc, command, files, store, out),
+        None => {
+            let status = refuse(alloc, ReadRefusal::Words, out);
+            (status.code(), store)
+        }
+    }
+}
+
+fn carry_out<S: ObjectStore, F: Files, K: Sink>(
+    alloc: Global,
+    command: Command<'_>,
+    files: &mut F,
+    store: S,
+    out: &mut K,
+) -> (u8, S)
+    ensures served { result.0 ≡ 2 → ⊥ }
+    ensures says { CallSays S.state S.faults S.unreported (Some (command_value command.entry)) (files_state F.told F.faults files.old) (files_state F.told F.faults files.new) store result.1 (sink_state K.taken K.faults out.old) (sink_state K.taken K.faults out.new) result.0 }
+    ensures headline { HasHeadline S.state S.faults S.unreported (Some (command_value command.entry)) (files_state F.told F.faults files.old) store result.1 (sink_state K.taken K.faults out.old) (sink_state K.taken K.faults out.new) result.0 }
+    ensures first { HasFirstHeadline S.state S.faults S.unreported (Some (command_value command.entry)) (files_state F.told F.faults files.old) store result.1 (sink_state K.taken K.faults out.old) (sink_state K.taken K.faults out.new) result.0 }
+    ensures unwritten { F.told files.new ≡ F.told files.old }
+    ensures later { F.faults files.old ≤ F.faults files.new }
+{
+    match command {
+        Command::Format { rank, layout } => format_store(alloc, rank, layout, store, out),
+        Command::Play { rank, script } => play_call(alloc, rank, script, files, store, out),
+    }
+}
+
+fn play_call<S: ObjectStore, F: Files, K: Sink>(
+    alloc: Global,
+    rank: RankNo,
+    script: &str,
+    files: &mut F,
+    store: S,
+    out: &mut K,
+) -> (u8, S)
+    ensures says { PlayCall S.state S.faults S.unreported rank script.now (files_state F.told F.faults files.old) (files_state F.told F.faults files.new) store result.1 (sink_state K.taken K.faults out.old) (sink_state K.taken K.faults out.new) result.0 }
+    ensures headline { HasHeadline S.state S.faults S.unreported (Some (play_value rank script.now)) (files_state F.told F.faults files.old) store result.1 (sink_state K.taken K.faults out.old) (sink_state K.taken K.faults out.new) result.0 }
+    ensures first { HasFirstHeadline S.state S.faults S.unreported (Some (play_value rank script.now)) (files_state F.told F.faults files.old) store result.1 (sink_state K.taken K.faults out.old) (sink_state K.taken K.faults out.new) result.0 }
+    ensures unwritten { F.told files.new ≡ F.told files.old }
+    ensures later { F.faults files.old ≤ F.faults files.new }
+{
+    let (status, store) = play_script(alloc, rank, script, files, store, out);
     (status.code(), store)
 }
 
-fn call<S: ObjectStore, F: Files, K: Sink>(
+fn play_script<S: ObjectStore, F: Files, K: Sink>(
     alloc: Global,
-    words: &[String],
+    rank: RankNo,
+    script: &str,
     files: &mut F,
     store: S,
     out: &mut K,
 ) -> (Status, S)
-    ensures says { EndSays S.state S.faults S.unreported words.now (files_state F.told F.faults files.old) (files_state F.told F.faults files.new) store result.1 (sink_state K.taken K.faults out.old) (sink_state K.taken K.faults out.new) result.0 }
-    ensures exact { IsExact words.now (files_state F.told F.faults files.old) (files_state F.told F.faults files.new) result.0 }
+    ensures says { EndSays S.state S.faults S.unreported rank script.now (files_state F.told F.faults files.old) (files_state F.told F.faults files.new) store result.1 (sink_state K.taken K.faults out.old) (sink_state K.taken K.faults out.new) result.0 }
+    ensures exact { IsExact script.now (files_state F.told F.faults files.old) (files_state F.told F.faults files.new) result.0 }
+    ensures small { rank ≤ 15 }
+    ensures unwritten { F.told files.new ≡ F.told files.old }
+    ensures later { F.faults files.old ≤ F.faults files.new }
 {
-    match read_call(alloc, words, files) {
-        Ok(lines) => play(alloc, &lines, store, out),
+    // a rank is at most 15
+    let _number = rank.number();
+    match read_lines(alloc, script, files) {
+        Ok(lines) => play(alloc, rank, &lines, store, out),
         Err(refusal) => {
             let status = refuse(alloc, refusal, out);
             (status, store)

@@ -1,20 +1,24 @@
-//! The program's top calls: a script is played over a store, with files and a sink that may fail.
+//! The program's top calls: a store is formatted, or a script is played over it, with files and a sink that may fail.
 #![tactic(auto)]
 
 mod answer;
 mod call;
-mod formatted;
+mod formatting;
 mod image;
+mod image_file;
+mod laws;
 mod line;
 mod mount;
+mod number;
 mod play;
 mod read;
 mod say;
 mod status;
+mod words;
 
 pub use call::mdjournal_call;
-pub use formatted::formatted_store;
 pub use image::mdjournal_image_call;
+pub use laws::{a_formatted_image_begins, a_written_image_rests};
 pub use status::Status;
 
 #[cfg(test)]

@@ -14,18 +14,19 @@ use mj_store::ObjectStore;
 use mj_world::World;
 use std::alloc::Global;
 
-/// Runs the lines of a script over a store that is first restarted.
+/// Runs the lines of a script as a rank over a store that is first restarted.
 pub fn play<S: ObjectStore, K: Sink>(
     alloc: Global,
+    rank: RankNo,
     lines: &[Line],
     mut store: S,
     out: &mut K,
 ) -> (Status, S)
     requires { All IsServed lines.now }
-    ensures { PlaySays S.state S.faults S.unreported result.0 lines.now store result.1 (sink_state K.taken K.faults out.old) (sink_state K.taken K.faults out.new) }
+    ensures { PlaySays S.state S.faults S.unreported rank result.0 lines.now store result.1 (sink_state K.taken K.faults out.old) (sink_state K.taken K.faults out.new) }
 {
     match store.restart() {
-        Ok(()) => play_restarted(alloc, lines, store, out),
+        Ok(()) => play_restarted(alloc, rank, lines, store, out),
         Err(fault) => {
             let status = fail_to_start(alloc, fault.faults, out);
             (status, store)
@@ -35,17 +36,15 @@ pub fn play<S: ObjectStore, K: Sink>(
 
 fn play_restarted<S: ObjectStore, K: Sink>(
     alloc: Global,
+    rank: RankNo,
     lines: &[Line],
     store: S,
     out: &mut K,
 ) -> (Status, S)
     requires served { All IsServed lines.now }
     requires restarted { S.unreported store ≡ [] }
-    ensures { Over store result.1 (RunSays S.state S.faults S.unreported result.0 lines.now (sink_state K.taken K.faults out.old) (sink_state K.taken K.faults out.new)) }
+    ensures { Over rank store result.1 (RunSays S.state S.faults S.unreported result.0 lines.now (sink_state K.taken K.faults out.old) (sink_state K.taken K.faults out.new)) }
 {
-    let Some(rank) = RankNo::new(0) else {
-        unreachable!()
-    };
     let mut world = World::new(store, rank);
     for (i, line) in lines.iter().enumerate() {
         match run_line(alloc, &mut world, i as u64 + 1, line, out) {

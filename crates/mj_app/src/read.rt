@@ -1,8 +1,8 @@
-//! What a call is to do: its words, the script that they name, and that script's lines.
+//! The script that a call is to play.
 
-ghost use Rattle.std.specs.Prelude.{◌≡◌, ◌≤◌, All, IfOk, IfErr, IsErrOf, None, option_map};
+ghost use Rattle.std.specs.Prelude.{◌≡◌, ◌≤◌, All, IfOk, IfErr};
 ghost use Rattle.mj_lines.specs.Line.{IsServed};
-ghost use Rattle.mj_app.specs.Read.{script_file, IsScript, IsReadRefusal};
+ghost use Rattle.mj_app.specs.Read.{IsScript, IsReadRefusal};
 
 use mj_base::{FileRefusal, Files};
 use mj_lines::{Line, ScriptRefusal, read_script};
@@ -22,22 +22,19 @@ pub enum ReadRefusal {
     Memory,
 }
 
-/// The lines of the script that the words name.
-pub fn read_call<F: Files>(
+/// The lines of the script in the file of this name.
+pub fn read_lines<F: Files>(
     alloc: Global,
-    words: &[String],
+    name: &str,
     files: &mut F,
 ) -> Result<Vec<Line>, ReadRefusal>
-    ensures lines { IfOk result (λ lines. IsScript (F.told files.old) words.now lines.items) }
+    ensures lines { IfOk result (λ lines. IsScript (F.told files.old) name.now lines.items) }
     ensures served { IfOk result (λ lines. All IsServed lines.items) }
-    ensures words { script_file words.now ≡ None → IsErrOf result ReadRefusal.Words }
-    ensures refused { IfErr result (IsReadRefusal (F.told files.old) (F.faults files.old) (F.faults files.new) words.now) }
+    ensures refused { IfErr result (IsReadRefusal (F.told files.old) (F.faults files.old) (F.faults files.new) name.now) }
+    ensures unchanged { F.told files.new ≡ F.told files.old }
     ensures later { F.faults files.old ≤ F.faults files.new }
 {
-    let Some(file) = script_file(words) else {
-        return Err(ReadRefusal::Words);
-    };
-    let bytes = match files.read(alloc, file) {
+    let bytes = match files.read(alloc, name) {
         Ok(bytes) => bytes,
         Err(FileRefusal::Missing) => return Err(ReadRefusal::FileMissing),
         Err(FileRefusal::TooLong(n)) => return Err(ReadRefusal::FileTooLong(n)),
@@ -48,21 +45,5 @@ pub fn read_call<F: Files>(
         Ok(lines) => Ok(lines),
         Err(ScriptRefusal::BadLine(n)) => Err(ReadRefusal::BadLine(n)),
         Err(ScriptRefusal::Memory) => Err(ReadRefusal::Memory),
-    }
-}
-
-/// The script that the words name: none where they are not served.
-fn script_file(words: &[String]) -> Option<&str>
-    ensures { option_map (λ name. name.now) result ≡ script_file words.now }
-{
-    match words {
-        [mode, file] => {
-            if mode.as_str() == "play" {
-                Some(file.as_str())
-            } else {
-                None
-            }
-        }
-        _ => None,
     }
 }

@@ -3,10 +3,13 @@
 ghost use Rattle.std.specs.Prelude.{◌≡◌, ◌++◌, ◌∷◌, [], ◌≤◌, IsErrOf, OnOk};
 ghost use Rattle.mj_lines.specs.Text.{turn_text, numbered};
 ghost use Rattle.mj_app.specs.Took.{sink_state};
-ghost use Rattle.mj_app.specs.Say.{refusal_text, Prints, HasFixedText};
+ghost use Rattle.mj_app.specs.Say.{refusal_text, image_text, formatted_text, unformatted_text, Prints, HasFixedText};
 
 use crate::read::ReadRefusal;
-use mj_base::{Sink, put_all};
+use mj_base::{RankNo, Sink, put_all};
+use mj_format::FormatRefusal;
+use mj_image::ImageRefusal;
+use mj_layout::Layout;
 use mj_lines::{Answer, append_numbers, append_turn};
 use std::alloc::Global;
 
@@ -48,6 +51,59 @@ pub fn say_refusal<K: Sink>(alloc: Global, refusal: ReadRefusal, out: &mut K) ->
         ReadRefusal::FileFault => put_text(b"file fault\n", out),
         ReadRefusal::BadLine(n) => say_number(alloc, "line", n, out),
         ReadRefusal::Memory => put_text(b"", out),
+    }
+}
+
+/// Prints why an image is none.
+pub fn say_image_refusal<K: Sink>(
+    alloc: Global,
+    refusal: ImageRefusal,
+    out: &mut K,
+) -> Result<(), Unsaid>
+    ensures { Prints (image_text refusal) (sink_state K.taken K.faults out.old) (sink_state K.taken K.faults out.new) result }
+{
+    match refusal {
+        ImageRefusal::BadMagic => say_number(alloc, "image BadMagic", 0, out),
+        ImageRefusal::TooLarge(n) => say_number(alloc, "image TooLarge", n, out),
+        ImageRefusal::Truncated(at) => say_number(alloc, "image Truncated", at, out),
+        ImageRefusal::BadName(at) => say_number(alloc, "image BadName", at, out),
+        ImageRefusal::BadOrder(at) => say_number(alloc, "image BadOrder", at, out),
+        ImageRefusal::BadFlag(at) => say_number(alloc, "image BadFlag", at, out),
+        ImageRefusal::Trailing(at) => say_number(alloc, "image Trailing", at, out),
+        ImageRefusal::Memory => put_text(b"", out),
+    }
+}
+
+/// Prints that a store was formatted: the rank and the first position of its stream.
+pub fn say_formatted<K: Sink>(
+    alloc: Global,
+    rank: RankNo,
+    layout: Layout,
+    out: &mut K,
+) -> Result<(), Unsaid>
+    ensures { Prints (formatted_text rank layout) (sink_state K.taken K.faults out.old) (sink_state K.taken K.faults out.new) result }
+{
+    let numbers = [u64::from(rank.number()), layout.period()];
+    let mut text = Vec::new(alloc);
+    match append_numbers("formatted", &numbers, &mut text) {
+        Ok(()) => put_text(&text, out),
+        Err(_) => Err(Unsaid::Memory),
+    }
+}
+
+/// Prints why a store was not formatted.
+pub fn say_unformatted<K: Sink>(
+    alloc: Global,
+    refusal: &FormatRefusal,
+    out: &mut K,
+) -> Result<(), Unsaid>
+    ensures { Prints (unformatted_text refusal.now) (sink_state K.taken K.faults out.old) (sink_state K.taken K.faults out.new) result }
+{
+    match refusal {
+        FormatRefusal::Formatted => put_text(b"refused formatted\n", out),
+        FormatRefusal::Store(fault) => say_number(alloc, "store", fault.faults, out),
+        FormatRefusal::Waiting(op) => say_number(alloc, "waiting", op.0, out),
+        FormatRefusal::Memory => put_text(b"", out),
     }
 }
 

@@ -6,16 +6,18 @@ ghost use Rattle.mj_app.specs.Status.{code_of};
 /// How a call ends. The program exits with its code.
 #[derive(Clone, Copy, Debug, PartialEq, Eq)]
 pub enum Status {
-    /// Every line was worked, and all text was taken.
+    /// Every line was worked, or the store was formatted, and all text was taken.
     Done,
-    /// Damage was named.
+    /// Damage was named, or the image is none.
     Damage,
     /// The words are not served.
     Words,
+    /// The store is formatted already.
+    Refused,
     Memory,
-    /// The store failed.
+    /// The store failed, or an operation is waited for.
     Store,
-    /// A named file is missing or too long, or the files failed.
+    /// A named file is missing or too long, the image to be written is too long, or the files failed.
     Files,
     /// A line of the script is outside the grammar.
     Grammar,
@@ -31,6 +33,7 @@ impl Status {
             Status::Done => 0,
             Status::Damage => 1,
             Status::Words => 2,
+            Status::Refused => 3,
             Status::Memory => 4,
             Status::Store => 5,
             Status::Files => 6,

@@ -1,5 +1,5 @@
 // Calls over files, a sink and a store in memory.
-use crate::{formatted_store, mdjournal_call, mdjournal_image_call};
+use crate::{mdjournal_call, mdjournal_image_call};
 use mj_base::{Files, MemFiles, MemSink};
 use mj_memstore::MemStore;
 use std::alloc::Global;
@@ -11,6 +11,11 @@ const RUN: &[u8] =
 const TOLD: &[u8] =
     b"1: mounted 1 4194304\n2: done 0 ends 4194397\n3: done 1099511627776 ends 4194573\n4: wrote 4194304 4194573\n5: applied 200.00000001 3\n6: reaped 3 safe 4194304 4194573\n7: restarted\n8: mounted 2 4194573\n9: tree\n/\n/a dir 0755 0 0 0 101 1 1099511627776\n";
 
+const EMPTY_IMAGE: &[u8] = b"MJIMG001\0\0\0\0";
+
+// The numbers of the calls with which a store is formatted: its restart, a look, and five operations, each sent and stepped.
+const FORMAT_CALLS: u64 = 12;
+
 fn words_of(alloc: Global, given: &[&str]) -> Result<Vec<String>, Fail> {
     let mut words = Vec::new(alloc);
     for word in given {
@@ -19,94 +24,228 @@ fn words_of(alloc: Global, given: &[&str]) -> Result<Vec<String>, Fail> {
     Ok(words)
 }
 
-fn files_with(alloc: Global, script: &[u8]) -> Result<MemFiles, Fail> {
-    let mut files = MemFiles::new(alloc, &[])?;
-    files.write(alloc, "s", script)?;
-    Ok(files)
-}
-
-#[test]
-fn one_directory_through_a_stop(rt: HostRuntime) -> Result<(), Fail> {
-    let alloc = rt.alloc();
-    let words = words_of(alloc, &["-", "play", "s"])?;
-    let mut files = files_with(alloc, RUN)?;
+// Calls with these words over the files: the status, and what took the text.
+fn call_over(alloc: Global, files: &mut MemFiles, given: &[&str]) -> Result<(u8, MemSink), Fail> {
+    let words = words_of(alloc, given)?;
     let mut out = MemSink::new(alloc, &[])?;
-    let status = mdjournal_image_call(alloc, &words, &mut files, &mut out);
-    assert_eq!(rt; out.taken(), TOLD);
-    assert_eq!(rt; status, 0);
-    Ok(())
+    let status = mdjournal_image_call(alloc, &words, files, &mut out);
+    Ok((status, out))
 }
 
 #[test]
-fn calls_are_refused_before_any_work(rt: HostRuntime) -> Result<(), Fail> {
+fn runs_follow_one_another_over_an_image(rt: HostRuntime) -> Result<(), Fail> {
     let alloc = rt.alloc();
-    let long = vec![in alloc; b'\n'; 1001]?;
-    let rows: [(&[&str], &[u8], u8, &[u8]); 6] = [
-        (&[], RUN, 2, b"words refused\n"),
-        (&["play"], RUN, 2, b"words refused\n"),
-        (&["play", "s", "s"], RUN, 2, b"words refused\n"),
-        (&["play", "t"], RUN, 6, b"file missing\n"),
-        (&["play", "s"], b"mount\n\nflsh\n", 7, b"line 3\n"),
-        (&["play", "s"], long.as_slice(), 7, b"line 1001\n"),
-    ];
-    for (given, script, want, text) in rows {
-        let words = words_of(alloc, given)?;
-        let mut files = files_with(alloc, script)?;
-        let mut out = MemSink::new(alloc, &[])?;
-        let store = formatted_store(alloc)?;
-        let (status, store) = mdjournal_call(alloc, &words, &mut files, store, &mut out);
-        assert_eq!(rt; status, want, "at {text:?}");
-        assert_eq!(rt; out.taken(), text);
-        assert_eq!(rt; store.all_objects(alloc)?.len(), 5);
-    }
-    Ok(())
-}
-
-#[test]
-fn words_behind_another_image_are_refused(rt: HostRuntime) -> Result<(), Fail> {
-    let alloc = rt.alloc();
-    let rows: [(&[&str], u8); 3] = [(&[], 2), (&["play"], 2), (&["image", "play", "s"], 2)];
-    for (given, want) in rows {
-        let words = words_of(alloc, given)?;
-        let mut files = files_with(alloc, RUN)?;
-        let mut out = MemSink::new(alloc, &[])?;
-        assert_eq!(rt;
-            mdjournal_image_call(alloc, &words, &mut files, &mut out),
-            want
-        );
-        assert_eq!(rt; out.taken(), b"words refused\n".as_slice());
-    }
-    Ok(())
-}
-
-#[test]
-fn faults_end_a_call(rt: HostRuntime) -> Result<(), Fail> {
-    let alloc = rt.alloc();
-    let words = words_of(alloc, &["play", "s"])?;
-    // the calls that fail of the files, of the store and of the sink
-    let rows: [(&[u8], &[u64], &[u64], &[u64], u8, &[u8]); 6] = [
-        (b"mount\n", &[2], &[], &[], 6, b"file fault\n"),
-        (b"mount\n", &[], &[1], &[], 5, b"0: store 1\n"),
+    let mut files = MemFiles::new(alloc, &[])?;
+    files.write(alloc, "s", b"mount\ntree\n")?;
+    let calls: [(&[&str], u8, &[u8]); 3] = [
+        (&["i", "format"], 0, b"formatted 0 4194304\n"),
         (
-            b"flush\nmount\n",
-            &[],
-            &[2],
-            &[],
-            5,
-            b"1: stopped\n2: store 1\n",
+            &["i", "play", "s"],
+            0,
+            b"1: mounted 1 4194304\n2: tree\n/\n",
         ),
-        (b"flush\n", &[], &[], &[1], 8, b""),
-        (b"flush\nmount\n", &[], &[2], &[2], 5, b"1: stopped\n"),
-        (b"mount\n", &[], &[1], &[1], 5, b""),
+        (&["i", "format"], 3, b"refused formatted\n"),
     ];
-    for (script, reads, calls, puts, want, text) in rows {
-        let mut files = MemFiles::new(alloc, reads)?;
-        files.write(alloc, "s", script)?;
-        let mut out = MemSink::new(alloc, puts)?;
-        let store = MemStore::failing(alloc, calls)?;
+    for (given, want, text) in calls {
+        let (status, out) = call_over(alloc, &mut files, given)?;
+        assert_eq!(rt; out.taken(), text);
+        assert_eq!(rt; status, want);
+    }
+    files.write(alloc, "s", RUN)?;
+    let calls: [(&[&str], u8, &[u8]); 2] = [
+        (&["j", "format"], 0, b"formatted 0 4194304\n"),
+        (&["j", "play", "s"], 0, TOLD),
+    ];
+    for (given, want, text) in calls {
+        let (status, out) = call_over(alloc, &mut files, given)?;
+        assert_eq!(rt; out.taken(), text);
+        assert_eq!(rt; status, want);
+    }
+    Ok(())
+}
+
+#[test]
+fn words_are_read_as_a_command(rt: HostRuntime) -> Result<(), Fail> {
+    let alloc = rt.alloc();
+    let refused: &[u8] = b"words refused\n";
+    let rows: [(&[&str], u8, &[u8]); 24] = [
+        (&["format"], 0, b"formatted 0 4194304\n"),
+        (&["format", "--rank", "3"], 0, b"formatted 3 4194304\n"),
+        (
+            &["format", "--su=4096", "--os", "65536", "--sc", "2"],
+            0,
+            b"formatted 0 131072\n",
+        ),
+        (&["format", "--"], 0, b"formatted 0 4194304\n"),
+        (&["play", "--rank=15", "t"], 6, b"file missing\n"),
+        (&["play", "--", "--rank"], 6, b"file missing\n"),
+        (&["play", "-"], 6, b"file missing\n"),
+        (&[], 2, refused),
+        (&["fromat"], 2, refused),
+        (&["--rank", "0", "format"], 2, refused),
+        (&["play"], 2, refused),
+        (&["play", "s", "s"], 2, refused),
+        (&["format", "s"], 2, refused),
+        (&["format", "--rank"], 2, refused),
+        (&["format", "--rank", "16"], 2, refused),
+        (&["format", "--rank", "01"], 2, refused),
+        (&["format", "--rank", "-1"], 2, refused),
+        (&["format", "--rank=1", "--rank=1"], 2, refused),
+        (&["format", "--sc", "4294967296"], 2, refused),
+        (&["format", "--os", "65535"], 2, refused),
+        (&["format", "--size", "65536"], 2, refused),
+        (&["format", "-r"], 2, refused),
+        (&["play", "s", "--su", "4096"], 2, refused),
+        (&["play", "s", "--", "--rank=0"], 2, refused),
+    ];
+    for (given, want, text) in rows {
+        let words = words_of(alloc, given)?;
+        let mut files = MemFiles::new(alloc, &[])?;
+        let mut out = MemSink::new(alloc, &[])?;
+        let store = MemStore::new(alloc);
         let (status, _) = mdjournal_call(alloc, &words, &mut files, store, &mut out);
         assert_eq!(rt; out.taken(), text);
-        assert_eq!(rt; status, want, "at {text:?}");
+        assert_eq!(rt; status, want, "at {given:?}");
     }
+    Ok(())
+}
+
+#[test]
+fn the_image_is_read_first_and_written_last(rt: HostRuntime) -> Result<(), Fail> {
+    let alloc = rt.alloc();
+    let long = vec![in alloc; b'\n'; 1001]?;
+    // the image, the script, the words, and what comes of it
+    let rows: [(Option<&[u8]>, &[u8], &[&str], u8, &[u8]); 10] = [
+        (None, RUN, &["i", "play"], 2, b"words refused\n"),
+        (None, RUN, &["i", "play", "t"], 6, b"file missing\n"),
+        (
+            Some(EMPTY_IMAGE),
+            b"mount\n\nflsh\n",
+            &["i", "play", "s"],
+            7,
+            b"line 3\n",
+        ),
+        (
+            Some(EMPTY_IMAGE),
+            long.as_slice(),
+            &["i", "play", "s"],
+            7,
+            b"line 1001\n",
+        ),
+        (Some(b""), RUN, &["i", "play"], 1, b"image BadMagic 0\n"),
+        (
+            Some(b"MJIMG001\0\0\0"),
+            RUN,
+            &["i", "play"],
+            1,
+            b"image Truncated 8\n",
+        ),
+        (
+            Some(b"MJIMG001\x01\0\0\0\x01\0x"),
+            RUN,
+            &["i", "format"],
+            1,
+            b"image BadName 14\n",
+        ),
+        (
+            Some(b"MJIMG001\x01\0\0\0\x0a\x001.00000000\0\0\0\0\0\0\0\0\x02"),
+            RUN,
+            &["i", "format"],
+            1,
+            b"image BadFlag 32\n",
+        ),
+        (
+            Some(
+                b"MJIMG001\x02\0\0\0\x0a\x001.00000000\0\0\0\0\0\0\0\0\0\0\0\0\0\x0a\x001.00000000",
+            ),
+            RUN,
+            &["i", "format"],
+            1,
+            b"image BadOrder 39\n",
+        ),
+        (
+            Some(b"MJIMG001\0\0\0\0\0"),
+            RUN,
+            &["i", "format"],
+            1,
+            b"image Trailing 12\n",
+        ),
+    ];
+    for (image, script, given, want, text) in rows {
+        let words = words_of(alloc, given)?;
+        let mut files = MemFiles::new(alloc, &[])?;
+        files.write(alloc, "s", script)?;
+        if let Some(image) = image {
+            files.write(alloc, "i", image)?;
+        }
+        let mut out = MemSink::new(alloc, &[])?;
+        let status = mdjournal_image_call(alloc, &words, &mut files, &mut out);
+        assert_eq!(rt; out.taken(), text);
+        assert_eq!(rt; status, want);
+        let written = files.read(alloc, "i")?;
+        assert_eq!(rt; written.as_slice(), image.unwrap_or(EMPTY_IMAGE));
+    }
+    Ok(())
+}
+
+#[test]
+fn faults_of_files_and_the_sink_end_a_call(rt: HostRuntime) -> Result<(), Fail> {
+    let alloc = rt.alloc();
+    // the calls that fail of the files and of the sink, the first being the writing of the script
+    let rows: [(&[&str], &[u64], &[u64], u8, &[u8]); 8] = [
+        (&["i", "play", "s"], &[2], &[], 6, b"file fault\n"),
+        (&["i", "play", "s"], &[3], &[], 6, b"file fault\n"),
+        (
+            &["i", "play", "s"],
+            &[4],
+            &[],
+            6,
+            b"1: stopped\nfile fault\n",
+        ),
+        (&["i", "play"], &[3], &[], 2, b"words refused\n"),
+        (&["i", "play", "s"], &[], &[1], 8, b""),
+        (&["i", "format"], &[], &[1], 8, b""),
+        (&["i", "format"], &[3], &[2], 6, b"formatted 0 4194304\n"),
+        (&[], &[], &[1], 2, b""),
+    ];
+    for (given, calls, puts, want, text) in rows {
+        let words = words_of(alloc, given)?;
+        let mut files = MemFiles::new(alloc, calls)?;
+        files.write(alloc, "s", b"flush\n")?;
+        let mut out = MemSink::new(alloc, puts)?;
+        let status = mdjournal_image_call(alloc, &words, &mut files, &mut out);
+        assert_eq!(rt; out.taken(), text);
+        assert_eq!(rt; status, want);
+    }
+    Ok(())
+}
+
+#[test]
+fn each_failed_call_of_the_store_is_told(rt: HostRuntime) -> Result<(), Fail> {
+    let alloc = rt.alloc();
+    let format = words_of(alloc, &["format"])?;
+    let play = words_of(alloc, &["play", "s"])?;
+    let mut files = MemFiles::new(alloc, &[])?;
+    files.write(alloc, "s", RUN)?;
+    let mut played = false;
+    for k in 1..80 {
+        let mut out = MemSink::new(alloc, &[])?;
+        let store = MemStore::failing(alloc, &[k])?;
+        let (status, store) = mdjournal_call(alloc, &format, &mut files, store, &mut out);
+        if k <= FORMAT_CALLS {
+            assert_eq!(rt; out.taken(), b"store 1\n".as_slice());
+            assert_eq!(rt; status, 5);
+            continue;
+        }
+        let mut out = MemSink::new(alloc, &[])?;
+        let (status, _) = mdjournal_call(alloc, &play, &mut files, store, &mut out);
+        if status == 0 {
+            played = true;
+        } else {
+            assert_eq!(rt; status, 5);
+            assert!(rt; !played);
+        }
+    }
+    assert!(rt; played);
     Ok(())
 }

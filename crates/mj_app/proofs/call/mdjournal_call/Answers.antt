@@ -1,10 +1,34 @@
-use Rattle.mj_app.specs.Call.{files_state}
-use Rattle.mj_app.proofs.CallLemmas.{call_says}
-use Rattle.mj_app.proofs.HeadlineLemmas.{headline_of}
+use Rattle.std.proofs.Common.{refl, sym, ap, ◌∙◌}
+use Rattle.mj_app.specs.Status.{code_of}
+use Rattle.mj_app.proofs.HeadlineLemmas.{none_play}
+use Rattle.mj_app.proofs.CallLemmas.{words_text}
 use Rattle.mj_app.proofs.call.mdjournal_call.Goals as goal
 
-pub returns-clause-says : goal.returns-clause-says
-returns-clause-says g c = call_says g.S.ObjectStore.state g.S.ObjectStore.faults g.S.ObjectStore.unreported _ _ _ _ _ c.call-status.result.0 _ c.call-status.result.1 _ c.code.ensures c.call-status.ensures.says c.call-status.ensures.exact
+pub returns-in-Some-clause-words : goal.returns-in-Some-clause-words
+returns-in-Some-clause-words g c = (λ two. absurd (c.carry_out.ensures.served two), λ none. absurd (let is = c.in-Some.ensures in cc))
 
-pub returns-clause-headline : goal.returns-clause-headline
-returns-clause-headline g c = λ s told formatted. headline_of g.S.ObjectStore.state g.S.ObjectStore.faults g.S.ObjectStore.unreported _ _ s told formatted _ _ (files_state g.F.Files.told g.F.Files.faults c.call-status.new.files) _ _ _ c.call-status.result.0 c.code.ensures c.call-status.ensures.says
+pub returns-in-Some-clause-says : goal.returns-in-Some-clause-says
+returns-in-Some-clause-says g c = rw (← c.in-Some.ensures) c.carry_out.ensures.says
+
+pub returns-in-Some-clause-headline : goal.returns-in-Some-clause-headline
+returns-in-Some-clause-headline g c = rw (← c.in-Some.ensures) c.carry_out.ensures.headline
+
+pub returns-in-Some-clause-first : goal.returns-in-Some-clause-first
+returns-in-Some-clause-first g c = rw (← c.in-Some.ensures) c.carry_out.ensures.first
+
+pub returns-in-None-clause-words : goal.returns-in-None-clause-words
+returns-in-None-clause-words g c = (λ two. sym c.in-None.ensures, λ none. c.code.ensures ∙ ap code_of (c.refuse-status.ensures.fixed tt))
+
+pub returns-in-None-clause-says : goal.returns-in-None-clause-says
+returns-in-None-clause-says g c = rw (← c.in-None.ensures) (record {
+  code_is = c.code.ensures ∙ ap code_of (c.refuse-status.ensures.fixed tt);
+  text = words_text c.refuse-status.result _ _ (c.refuse-status.ensures.fixed tt) c.refuse-status.ensures.says;
+  unread = refl;
+  untouched = refl;
+})
+
+pub returns-in-None-clause-headline : goal.returns-in-None-clause-headline
+returns-in-None-clause-headline g c = rw (← c.in-None.ensures) (none_play _)
+
+pub returns-in-None-clause-first : goal.returns-in-None-clause-first
+returns-in-None-clause-first g c = rw (← c.in-None.ensures) (none_play _)

@@ -1,14 +1,14 @@
-use Rattle.std.proofs.Common.{inr, refl}
-use Rattle.mj_memstore.specs.Store.{memory_state}
-use Rattle.mj_app.proofs.FormattedLemmas.{store_formatted}
+use Rattle.std.proofs.Common.{refl, ap, ◌∙◌}
+use Rattle.mj_app.specs.Status.{code_of}
+use Rattle.mj_app.proofs.CallLemmas.{words_text}
 use Rattle.mj_app.proofs.image.mdjournal_image_call.Goals as goal
 
-pub returns : goal.returns
-returns g c =
-    rw (← c.in-Some.ensures) (inr (record {
-      before = c.in-Ok.store;
-      after = c.mdjournal_call-code.result.1;
-      formatted = c.in-Ok.ensures;
-      says = c.mdjournal_call-code.ensures.says;
-      headline = c.mdjournal_call-code.ensures.headline (memory_state c.in-Ok.store) refl (store_formatted c.in-Ok.store c.in-Ok.ensures);
-    }))
+pub returns-in-Some : goal.returns-in-Some
+returns-in-Some g c = rw (← c.in-Some.ensures) c.over_image.ensures
+
+pub returns-in-None : goal.returns-in-None
+returns-in-None g c = rw (← c.in-None.ensures) (record {
+  code_is = c.code.ensures ∙ ap code_of (c.refuse.ensures.fixed tt);
+  unread = refl;
+  text = words_text c.refuse.result _ _ (c.refuse.ensures.fixed tt) c.refuse.ensures.says;
+})
