@@ -1,2 +1,3 @@
 pub mod PlainMaps
+pub mod RangesKept
 pub mod PlainReplies

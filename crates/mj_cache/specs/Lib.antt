@@ -2,3 +2,4 @@ pub mod Cached
 pub mod Refused
 pub mod Inside
 pub mod PlainLists
+pub mod Ranges

@@ -15,10 +15,12 @@ ghost use Rattle.mj_cache.specs.Cached.{begun, projected, made_safe, early_cells
 ghost use Rattle.mj_index.specs.Places.{inodes_of, sessions_of, opens_of};
 ghost use Rattle.mj_judge.specs.Own.{own_damage};
 ghost use Rattle.mj_cache.specs.Refused.{IsRefusal};
+ghost use Rattle.mj_cache.specs.Ranges.{AllInRange};
 ghost use Rattle.mj_index.specs.Indexed.{IsIndexed};
 ghost use Rattle.mj_tables.specs.Layered.{early_cells as layered_cells};
 
 use crate::plain::plain_tree;
+use crate::ranges::{layers_in_range, writes_in_range};
 use crate::refusal::CacheRefusal;
 use mj_base::{Ino, RankNo};
 use mj_cells::{CellKey, CellTable, CellValue, CellView, CellWrite};
@@ -56,11 +58,13 @@ impl Model for Cache {
 fn examine(alloc: Global, rank: RankNo, layers: &Layers) -> Result<Index, CacheRefusal>
     ensures sound { OnOk result (own_damage rank (table_of (layered_cells layers.now)) ≡ None) }
     ensures index { IfOk result (IsIndexed rank (layered_cells layers.now)) }
+    ensures range { OnOk result (AllInRange (layered_cells layers.now)) }
     ensures refused { IfErr result (IsRefusal (own_damage rank (table_of (layered_cells layers.now)))) }
 {
     if let Some(damage) = own_damage(alloc, rank, layers)? {
         return Err(CacheRefusal::NotTree(damage));
     }
+    layers_in_range(alloc, layers)?;
     let index = early_index(alloc, rank, layers)?;
     Ok(index)
 }
@@ -100,6 +104,13 @@ impl Cache {
         let _ = &self.layers;
     }
 
+    /// Each early cell has a name that is one, and numbers of their types.
+    pub fn all_in_range(&self)
+        ensures { AllInRange (early_cells self.now) }
+    {
+        let _ = &self.layers;
+    }
+
     /// The early table has a tree.
     pub fn has_tree(&self)
         ensures { own_damage self.now.rank (early_table self.now) ≡ None }
@@ -122,6 +133,7 @@ impl Cache {
         ensures ok { OnOk result (self.new ≡ projected ws.items ends self.old) }
         ensures err { OnErr result (self.new ≡ self.old) }
     {
+        writes_in_range(&ws);
         project(
             alloc,
             self.rank,

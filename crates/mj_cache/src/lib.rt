@@ -4,6 +4,7 @@
 mod cache;
 mod plain;
 mod plain_sessions;
+mod ranges;
 mod refusal;
 
 pub use cache::Cache;

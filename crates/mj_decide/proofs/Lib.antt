@@ -6,3 +6,4 @@ pub mod Names
 pub mod Opens
 pub mod Deciding
 pub mod Walked
+pub mod EachTree

@@ -76,7 +76,7 @@ module _ (c : CacheValue) (is : HasTree c) where
   open_above client i x e =
       let r = kind_record File (get (early_tree c).records i) (is.dentries.open_files client i (is_some_at _ x e)) in
       let p = record_primary c.rank (early_table c) (early_tree c) is.primary is.dentries i r.0 r.1 in
-      omega (arith, (ids c.rank).root, is.dentries.above i p.0 (is.dentries.primary_full i p.0 p.1))
+      omega (arith, (ids c.rank).root, is.dentries.above i p.0 p.1)
 
   module _ (fit : AllFit (early_cells c)) (client : ℕ) where
     abbrev own : (ℕ × ℕ) × Unit {0} → Bool

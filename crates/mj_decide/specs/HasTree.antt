@@ -1,4 +1,4 @@
--- A cache whose early table has its tree, and each cell of it is one that the rank would write.
+-- The early table of a cache has its tree, as that of every cache does.
 use Rattle.mj_cache.specs.Cached.{CacheValue, early_table, early_tree}
 use Rattle.mj_delta.specs.TreeOf.{IsTreeOf}
 

@@ -14,6 +14,7 @@ use crate::looks::{lookup, readdir, readlink};
 use crate::ranges::{has_opens, kept_from};
 use crate::reads::{kept_reply, session_oldest};
 use crate::rows::{link, make, open_file, release, rename, rmdir, set_attr, unlink};
+use crate::tree::has_tree;
 use mj_base::{ClientId, Ino, Kind, Target, Tid};
 use mj_cache::Cache;
 use mj_tree::{
@@ -179,9 +180,9 @@ fn by_session(alloc: Global, cache: &Cache, r: &ClientRequest) -> Result<Decisio
 /// What the request comes to: a reply alone, or what changes.
 #[tactic(auto, unfolding(mj_tree::specs::Answer::decision))]
 pub fn decide(alloc: Global, cache: &Cache, r: &ClientRequest) -> Result<Decision, AllocError>
-    requires tree { HasTree cache.now }
     ensures { IfOk result (λ d. d ≡ decision (early_tree cache.now) r.entry.now) }
 {
+    has_tree(cache);
     if r.tid < r.oldest {
         return Ok(refused(EINVAL));
     }

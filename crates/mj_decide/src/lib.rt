@@ -6,6 +6,7 @@ mod looks;
 mod ranges;
 mod reads;
 mod rows;
+mod tree;
 mod walking;
 
 pub use decision::decide;
@@ -13,3 +14,4 @@ pub use ranges::kept_tids;
 pub use reads::{
     dentry_at, full_place, head_of, is_dir, is_open, link_count, next_ino, record, session_oldest,
 };
+pub use tree::has_tree;

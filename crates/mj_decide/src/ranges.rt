@@ -14,6 +14,7 @@ ghost use Rattle.mj_decide.specs.HasTree.{HasTree};
 ghost use Rattle.mj_decide.specs.Reads.{is_open_by, kept_of, name_below, name_in, name_of, next_name, next_tid, tid_in};
 
 use crate::reads::{kept_reply, link_at, session_oldest};
+use crate::tree::has_tree;
 use mj_base::{ClientId, Ino, Items, Name, Tid};
 use mj_cache::Cache;
 use mj_cells::CellKey;
@@ -85,9 +86,9 @@ fn session_tids(
 
 /// The numbers of a client's kept replies, ascending. There are at most 64.
 pub fn kept_tids(alloc: Global, cache: &Cache, client: ClientId) -> Result<Vec<Tid>, AllocError>
-    requires tree { HasTree cache.now }
     ensures { IfOk result (λ found. found.items ≡ tids (kept_of (early_tree cache.now) client)) }
 {
+    has_tree(cache);
     match session_oldest(cache, client) {
         Some(oldest) => session_tids(alloc, cache, client, oldest),
         None => Ok(Vec::new(alloc)),

@@ -13,6 +13,7 @@ ghost use Rattle.mj_delta.specs.TreeOf.{oldest_of};
 ghost use Rattle.mj_decide.specs.HasTree.{HasTree};
 ghost use Rattle.mj_decide.specs.Reads.{full_record, record_in};
 
+use crate::tree::has_tree;
 use mj_base::{ClientId, Ino, InodeRecord, Kind, Name, Tid};
 use mj_cache::Cache;
 use mj_cells::{CellKey, CellValue};
@@ -97,9 +98,9 @@ pub fn full_record(cache: &Cache, ino: Ino) -> Option<&InodeRecord>
 
 /// How many links an inode has.
 pub fn link_count(cache: &Cache, ino: Ino) -> u32
-    requires tree { HasTree cache.now }
     ensures { result ≡ link_count (early_tree cache.now) ino }
 {
+    has_tree(cache);
     match full_record(cache, ino) {
         Some(inode) => inode.links,
         None => 0,
@@ -116,10 +117,10 @@ pub fn is_kept(cache: &Cache, ino: Ino) -> bool
 
 /// The record of an inode that a link or an open names. The root has none.
 pub fn record(cache: &Cache, ino: Ino) -> Option<&InodeRecord>
-    requires tree { HasTree cache.now }
     ensures attributes { option_map attributes_of (option_copied result) ≡ get (early_tree cache.now).records ino }
     ensures links { IfSome (option_copied result) (λ inode. inode.links ≡ link_count (early_tree cache.now) ino) }
 {
+    has_tree(cache);
     if is_kept(cache, ino) {
         full_record(cache, ino)
     } else {
@@ -138,7 +139,6 @@ fn has_kind(found: Option<&InodeRecord>, kind: Kind) -> bool
 }
 
 pub fn is_dir(cache: &Cache, ino: Ino) -> bool
-    requires tree { HasTree cache.now }
     ensures { result ≡ is_dir (early_tree cache.now) ino }
 {
     ino == ROOT || has_kind(record(cache, ino), Kind::Dir)
@@ -167,9 +167,9 @@ pub fn head_of(cache: &Cache, dir: Ino) -> Option<u64>
 
 /// The inode that the next new file or directory gets.
 pub fn next_ino(cache: &Cache) -> Ino
-    requires tree { HasTree cache.now }
     ensures { result ≡ (early_tree cache.now).next }
 {
+    has_tree(cache);
     match number(cache, &CellKey::NextIno) {
         Some(next) => Ino(next),
         None => Ino(0),
@@ -178,9 +178,9 @@ pub fn next_ino(cache: &Cache) -> Ino
 
 /// The oldest number of a client's session, if it has one.
 pub fn session_oldest(cache: &Cache, client: ClientId) -> Option<Tid>
-    requires tree { HasTree cache.now }
     ensures { result ≡ oldest_of (get (early_tree cache.now).sessions client) }
 {
+    has_tree(cache);
     match number(cache, &CellKey::Session(client)) {
         Some(oldest) => Some(Tid(oldest)),
         None => None,

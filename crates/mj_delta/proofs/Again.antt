@@ -28,7 +28,6 @@ dentries_again rank t s primary sessions done others m = record {
   stray_names = m.stray_names;
   heads = m.heads;
   own_heads = m.own_heads;
-  no_zero_heads = m.no_zero_heads;
   opens = m.opens;
   open_files = m.open_files;
   few_entries = m.few_entries;

@@ -8,7 +8,7 @@ use Rattle.mj_base.specs.Record.{same_kind}
 use Rattle.mj_base.specs.declared.record.Kind.TheVariants.{Dir}
 use Rattle.mj_maps.specs.Map.{Map, get, insert}
 use Rattle.mj_maps.specs.Orders.{nat_cmp}
-use Rattle.mj_maps.proofs.MapLaws.{exact_nat, some_same, insert_same, insert_other, cases_key, apart}
+use Rattle.mj_maps.proofs.MapLaws.{exact_nat, insert_same, insert_other, cases_key, apart}
 use Rattle.mj_tree.specs.declared.change.Attributes.{Attributes}
 use Rattle.mj_tree.specs.declared.change.Change.TheVariants.{Begin}
 use Rattle.mj_tree.specs.declared.change.Decision.TheVariants.{SessionBegins, Accepted}
@@ -97,15 +97,15 @@ module _ (rank : ℕ) (t : Table) (s : PlainState) (is : IsTreeOf rank t s) (q :
     | inr far ↦ subst (λ o. IsSome o) (sym (insert_other exact_nat t.heads q.0 v d far)) (m.heads d (sym (ap (λ b. b || (d == stray_ino rank)) (dir_other rank t s is.primary m q a v new_heads can d ne)) ∙ held))
   ]
 
-  parent_cases : (d w : ℕ) → get (insert t.heads q.0 v) d ≡ Some w → ((d ≡ q.0) × (w ≡ v)) ⊎ (get t.heads d ≡ Some w)
+  parent_cases : (d w : ℕ) → get (insert t.heads q.0 v) d ≡ Some w → (d ≡ q.0) ⊎ (get t.heads d ≡ Some w)
   parent_cases d w e = elim (cases_key exact_nat d q.0) [
-    | inl same ↦ inl (same, some_same w v (sym e ∙ ap (get (insert t.heads q.0 v)) same ∙ insert_same exact_nat t.heads q.0 v))
+    | inl same ↦ inl same
     | inr far ↦ inr (sym (insert_other exact_nat t.heads q.0 v d far) ∙ e)
   ]
 
-  head_cases : (dir : Bool) (d w : ℕ) → get (heads_in dir) d ≡ Some w → ((d ≡ s.next) × (w ≡ 1)) ⊎ (get (insert t.heads q.0 v) d ≡ Some w)
+  head_cases : (dir : Bool) (d w : ℕ) → get (heads_in dir) d ≡ Some w → (d ≡ s.next) ⊎ (get (insert t.heads q.0 v) d ≡ Some w)
   head_cases true d w e = elim (cases_key exact_nat d s.next) [
-    | inl same ↦ inl (same, some_same w 1 (sym e ∙ ap (get (heads_in true)) same ∙ insert_same exact_nat (insert t.heads q.0 v) s.next 1))
+    | inl same ↦ inl same
     | inr far ↦ inr (sym (insert_other exact_nat (insert t.heads q.0 v) s.next 1 d far) ∙ e)
   ]
   head_cases false d w e = inr e
@@ -127,12 +127,8 @@ module _ (rank : ℕ) (t : Table) (s : PlainState) (is : IsTreeOf rank t s) (q :
   are_heads = record {
     held = λ d held. held_head (same_kind a.kind Dir) refl d held;
     own = λ d w e. elim (head_cases (same_kind a.kind Dir) d w e) [
-      | inl x ↦ inr (inr (omega (arith, x.0, m.first_next), omega (arith, x.0)))
-      | inr old ↦ own_more rank s.next d (elim (parent_cases d w old) [ inl x ↦ subst (IsOwn rank s.next) (sym x.0) (own_dir rank t s is.primary m q.0 can.parent) | inr older ↦ m.own_heads d w older ])
-    ];
-    not_zero = λ d w e. elim (head_cases (same_kind a.kind Dir) d w e) [
-      | inl x ↦ omega (arith, x.1)
-      | inr old ↦ elim (parent_cases d w old) [ inl x ↦ subst (λ n. 0 < n) (sym x.1) not_zero | inr older ↦ m.no_zero_heads d w older ]
+      | inl x ↦ inr (inr (omega (arith, x, m.first_next), omega (arith, x)))
+      | inr old ↦ own_more rank s.next d (elim (parent_cases d w old) [ inl x ↦ subst (IsOwn rank s.next) (sym x) (own_dir rank t s is.primary m q.0 can.parent) | inr older ↦ m.own_heads d w older ])
     ];
   }
 

@@ -4,7 +4,7 @@ use Rattle.std.specs.Prelude.{IsSome, IsTrue, is_some, ◌==◌, nat_lt}
 use Rattle.std.specs.Option.{option_and_then}
 use Rattle.std.proofs.lemmas.Bool.{false≢true, cases_eq, cases_Bool, ne_eqb, eq-eqb, lt-ltb}
 use Rattle.mj_base.specs.Name.{is_name}
-use Rattle.mj_base.specs.ObjectName.{hex, stray_ino, first_ino}
+use Rattle.mj_base.specs.ObjectName.{hex, stray_ino}
 use Rattle.mj_base.specs.Record.{IsRecord}
 use Rattle.mj_base.specs.declared.record.Kind.{Kind}
 use Rattle.mj_base.specs.declared.record.InodeRecord.{InodeRecord}
@@ -69,7 +69,7 @@ module _ (rank : ℕ) (t : Table) (s : PlainState) (primary : Places) (m : HasDe
   parent_is = (link_parent rank t s primary m q i link).0
 
   pub not_root : i ≡ 1 → ⊥
-  not_root e = omega (arith, (ids rank).root, m.above i p (m.primary_full i p at), e)
+  not_root e = omega (arith, (ids rank).root, m.above i p at, e)
 
   -- what full dentries at q and at p are of
   pub q_own : (j : ℕ) → full_of (get t.dentries q) ≡ Some j → j ≡ i
@@ -178,10 +178,7 @@ module _ (rank : ℕ) (t : Table) (s : PlainState) (primary : Places) (m : HasDe
       next = beside.next ∙ m.next;
       first_next = m.first_next;
       next_fits = m.next_fits;
-      above = λ j. by_place (λ x. full_of (get t1.dentries x) ≡ Some j → first_ino rank ≤ j)
-          (λ f. absurd (none_some j (sym (ap full_of at_q) ∙ f)))
-          (λ f. subst (λ j. first_ino rank ≤ j) (some_same i j (sym (ap full_of at_r) ∙ f)) (m.above i p (m.primary_full i p at)))
-          (λ x nq nr f. m.above j x (sym (ap full_of (at_other x nq nr)) ∙ f));
+      above = λ j x e. elim (cut_cases j x e) [ inl u ↦ omega (arith, u.0, m.above i p at) | inr u ↦ m.above j x u.1 ];
       beneath = λ j x e. elim (cut_cases j x e) [ inl u ↦ omega (arith, u.0, m.beneath i p at) | inr u ↦ m.beneath j x u.1 ];
       own_cells = by_place (λ x. IsSome (get t1.dentries x) → IsOwn rank s.next x.0)
           (λ h. absurd (no_cell_q h))
@@ -193,7 +190,6 @@ module _ (rank : ℕ) (t : Table) (s : PlainState) (primary : Places) (m : HasDe
           (λ x nq nr e f. m.stray_names x.1 j (ap (λ d. names (get t.dentries (d, x.1))) (sym e) ∙ sym (ap names (at_other x nq nr)) ∙ f)) (stray_ino rank, n) refl;
       heads = beside.heads.held;
       own_heads = beside.heads.own;
-      no_zero_heads = beside.heads.not_zero;
       opens = beside.opens ∙ m.opens;
       open_files = m.open_files;
       few_entries = λ d. omega (arith, entries_cut d, m.few_entries d);

@@ -105,7 +105,7 @@ module _ (rank : ℕ) (t : Table) (s : PlainState) (primary : Places) (m : HasDe
     pub full_not_in : (j : ℕ) (x : ℕ × List ℕ) → get primary j ≡ Some x → x.0 ≡ i → ⊥
     full_not_in j x e same = elim (held_cases rank t s primary m x.0 (m.primary_held j x e)) [
       | inl dir ↦ link_not_in x j (m.links x ∙ (λ z. cond (dir z) (names (get t.dentries x)) None) ∙ full_named _ j (m.primary_full j x e)) same
-      | inr st ↦ omega (arith, (ids rank).below, m.above i p (m.primary_full i p it.stands), st, same)
+      | inr st ↦ omega (arith, (ids rank).below, m.above i p it.stands, st, same)
     ]
 
     pub no_cells : (n : List ℕ) → is_dir s i ≡ true → get t.dentries (i, n) ≡ None

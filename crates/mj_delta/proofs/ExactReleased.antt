@@ -78,7 +78,7 @@ module _ (rank : ℕ) (t : Table) (s : PlainState) (is : IsTreeOf rank t s) (r :
     stands = some_same it.place z0 (sym it.stands ∙ (its rank t s is client i there).1 ∙ ap Some (place rank t s is client i there goes))
 
     i_no_root : i ≡ root → ⊥
-    i_no_root e = omega (arith, (ids rank).root, m.above i it.place (m.primary_full i it.place it.stands), e)
+    i_no_root e = omega (arith, (ids rank).root, m.above i it.place it.stands, e)
 
     i_no_dir : is_dir s i ≡ false
     i_no_dir = λ z. ne_eqb i root i_no_root z || no_dir rank t s is client i there goes z

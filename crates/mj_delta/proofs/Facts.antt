@@ -101,7 +101,7 @@ module _ (rank : ℕ) (t : Table) (s : PlainState) (primary : Places) (m : HasDe
 
   pub stray_no_dir : is_dir s (stray_ino rank) ≡ false
   stray_no_dir = elim (cases_Bool (is_dir s (stray_ino rank))) [
-    | inl h ↦ elim (dir_cases (stray_ino rank) h) [ inl e ↦ absurd ((ids rank).apart e) | inr w ↦ absurd (omega (arith, (ids rank).below, m.above (stray_ino rank) w.0 (m.primary_full (stray_ino rank) w.0 w.1))) ]
+    | inl h ↦ elim (dir_cases (stray_ino rank) h) [ inl e ↦ absurd ((ids rank).apart e) | inr w ↦ absurd (omega (arith, (ids rank).below, m.above (stray_ino rank) w.0 w.1)) ]
     | inr h ↦ h
   ]
 
@@ -123,7 +123,7 @@ module _ (rank : ℕ) (t : Table) (s : PlainState) (primary : Places) (m : HasDe
       ]
 
   pub link_range : (q : ℕ × List ℕ) (i : ℕ) → get s.links q ≡ Some i → (first_ino rank ≤ i) × (i < s.next)
-  link_range q i e = let p = link_primary q i e in (m.above i p.0 (m.primary_full i p.0 p.1), m.beneath i p.0 p.1)
+  link_range q i e = let p = link_primary q i e in (m.above i p.0 p.1, m.beneath i p.0 p.1)
 
   -- the next inode is fresh
   pub next_no_primary : get primary s.next ≡ None

@@ -13,7 +13,7 @@ use Rattle.mj_base.specs.ObjectName.{stray_ino, first_ino}
 use Rattle.mj_base.specs.declared.record.Kind.TheVariants.{Dir}
 use Rattle.mj_maps.specs.Map.{get, insert, empty}
 use Rattle.mj_maps.specs.Orders.{nat_cmp, place_cmp, pair_cmp}
-use Rattle.mj_maps.proofs.MapLaws.{exact_nat, exact_place, none_some, some_same, insert_same, insert_other, cases_key, count_none, len_empty, get_empty}
+use Rattle.mj_maps.proofs.MapLaws.{exact_nat, exact_place, none_some, insert_same, insert_other, cases_key, count_none, len_empty, get_empty}
 use Rattle.mj_layout.specs.Striping.{Striping, IsStriping}
 use Rattle.mj_tree.specs.declared.change.Attributes.{Attributes}
 use Rattle.mj_tree.specs.State.{PlainState, Session, root, new_state, is_dir, is_kind, is_kept}
@@ -63,13 +63,13 @@ module _ (rank : ℕ) (small : rank ≤ 15) where
   stray_head : get t.heads (stray_ino rank) ≡ Some 1
   stray_head = insert_same exact_nat (insert empty root 1) (stray_ino rank) 1
 
-  head_cases : (d v : ℕ) → get t.heads d ≡ Some v → (v ≡ 1) × ((d ≡ root) ⊎ (d ≡ stray_ino rank))
+  head_cases : (d v : ℕ) → get t.heads d ≡ Some v → (d ≡ root) ⊎ (d ≡ stray_ino rank)
   head_cases d v e = elim (cases_key exact_nat d (stray_ino rank)) [
-    | inl same ↦ (some_same v 1 (sym e ∙ ap (get t.heads) same ∙ stray_head), inr same)
+    | inl same ↦ inr same
     | inr ne ↦
         let e = sym (insert_other exact_nat (insert empty root 1) (stray_ino rank) 1 d ne) ∙ e in
         elim (cases_key exact_nat d root) [
-          | inl same ↦ (some_same v 1 (sym e ∙ ap (get (insert {R = nat_cmp} empty root 1)) same ∙ insert_same exact_nat empty root 1), inl same)
+          | inl same ↦ inl same
           | inr far ↦ absurd (nothing nat_cmp d v (sym (insert_other exact_nat empty root 1 d far) ∙ e))
         ]
   ]
@@ -100,13 +100,12 @@ module _ (rank : ℕ) (small : rank ≤ 15) where
     next = refl;
     first_next = omega arith;
     next_fits = omega (arith, small);
-    above = λ i q f. absurd (no_cell full_of refl q i f);
+    above = λ i q e. absurd (nothing nat_cmp i q e);
     beneath = λ i q e. absurd (nothing nat_cmp i q e);
     own_cells = λ q h. absurd (not_there _ place_cmp q h);
     stray_names = λ n i e. absurd (no_cell names refl (stray_ino rank, n) i e);
     heads = head_there;
-    own_heads = λ d v e. own d (head_cases d v e).1;
-    no_zero_heads = λ d v e. omega (arith, (head_cases d v e).0);
+    own_heads = λ d v e. own d (head_cases d v e);
     opens = refl;
     open_files = λ c i h. absurd (not_there _ pair_cmp (c, i) h);
     few_entries = λ d. omega (arith, count_none exact_place (λ (e : (ℕ × List ℕ) × ℕ). e.0.0 == d) empty (λ k v e _. nothing place_cmp k v e));

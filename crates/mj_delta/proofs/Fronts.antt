@@ -155,7 +155,7 @@ turn_writes : (xs : List Turn) → all_writes xs ≡ flat_map writes_of (events 
 turn_writes [] = refl
 turn_writes (x ∷ xs) = ap (λ ws. writes_of x.0 ++ ws) (turn_writes xs)
 
-same_writes : (j : LiveJournal) (live : List Turn) → live_events j ≡ events live → journal_writes j.events ≡ all_writes live
+pub same_writes : (j : LiveJournal) (live : List Turn) → live_events j ≡ events live → journal_writes j.events ≡ all_writes live
 same_writes j live e = live_writes j.events ∙ ap (flat_map writes_of) e ∙ sym (turn_writes live)
 
 module _ (rank : ℕ) (m : Objects) (j : LiveJournal) (t : Table) (s : PlainState) (older live : List Turn) (is : IsTreeOf rank t s) (c : Carries rank t s (older ++ live)) (h : HoldsHistory rank m j t older live) where

@@ -159,7 +159,6 @@ module _ (rank : ℕ) (t : Table) (s : PlainState) (is : IsTreeOf rank t s) (cli
       stray_names = m.stray_names;
       heads = m.heads;
       own_heads = m.own_heads;
-      no_zero_heads = m.no_zero_heads;
       opens = ap (λ (x : Set pair_cmp). insert x (client, i) tt) m.opens;
       open_files = λ d j h. elim (cases_key exact_pair (d, j) (client, i)) [
         | inl same ↦ ap (is_file s) (ap (λ (k : ℕ × ℕ). k.1) same) ∙ file

@@ -21,9 +21,6 @@ use Rattle.mj_delta.proofs.Ending.{Beside}
 
 module _ (rank : ℕ) (t : Table) (s : PlainState) (primary : Places) (m : HasDentries rank t s primary) (plan : Plan) (s1 : PlainState) (next : s1.next ≡ s.next) (fits : PlanFits rank s1 plan)
     (held : (d : ℕ) → is_held rank s1 d ≡ true → (is_held rank s d ≡ true) × (plan.removed ≡ Some d → ⊥)) where
-  version_some : (d : ℕ) → 0 < next_version t d
-  version_some d = omega arith
-
   laid_heads : AreHeadsOf rank s1 (laid t plan).heads
   laid_heads = record {
     held = λ d h. let w = held d h in elim (cases_option (get (heads_of t plan) d)) [
@@ -38,13 +35,6 @@ module _ (rank : ℕ) (t : Table) (s : PlainState) (primary : Places) (m : HasDe
       | inr u ↦ elim (head_is t plan d u.0 u.1) [
         | inl gone ↦ absurd (none_some n (ap (λ h. number_of (head_value h)) (sym gone.1) ∙ sym (laid_head t plan d u.0 u.1) ∙ e))
         | inr x ↦ subst (IsOwn rank s1.next) x.2 (fits.own x.0.0 x.0.1 x.1)
-      ]
-    ];
-    not_zero = λ d n e. elim (cases_option (get (heads_of t plan) d)) [
-      | inl none ↦ m.no_zero_heads d n (sym (laid_other_head t plan d none) ∙ e)
-      | inr u ↦ elim (head_is t plan d u.0 u.1) [
-        | inl gone ↦ absurd (none_some n (ap (λ h. number_of (head_value h)) (sym gone.1) ∙ sym (laid_head t plan d u.0 u.1) ∙ e))
-        | inr x ↦ subst (λ n. 0 < n) (some_same (next_version t d) n (ap (λ h. number_of (head_value h)) (sym x.3) ∙ sym (laid_head t plan d u.0 u.1) ∙ e)) (version_some d)
       ]
     ];
   }

@@ -49,6 +49,9 @@ pub mod ExactMoved
 pub mod ExactReplaced
 pub mod ExactSessions
 pub mod EventIs
+pub mod Sizes
+pub mod PlanSizes
+pub mod EventFits
 pub mod NoRows
 pub mod Undamaged
 pub mod Sources

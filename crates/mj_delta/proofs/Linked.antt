@@ -166,14 +166,14 @@ module _ (rank : ℕ) (t : Table) (s : PlainState) (is : IsTreeOf rank t s) (q :
   w_not_zero : 0 < w
   w_not_zero = omega arith
 
-  head_cases : (d n : ℕ) → get t1.heads d ≡ Some n → IsOwn rank s.next d × (0 < n)
-  head_cases d n e = elim (cases_key exact_nat d q.0) [
-    | inl same ↦ (subst (IsOwn rank s.next) (sym same) q_own, subst (λ n. 0 < n) (some_same w n (sym (insert_same exact_nat (insert t.heads p.0 v) q.0 w) ∙ ap (get t1.heads) (sym same) ∙ e)) w_not_zero)
+  own_heads : (d n : ℕ) → get t1.heads d ≡ Some n → IsOwn rank s.next d
+  own_heads d n e = elim (cases_key exact_nat d q.0) [
+    | inl same ↦ subst (IsOwn rank s.next) (sym same) q_own
     | inr ne ↦
         let e = sym (insert_other exact_nat (insert t.heads p.0 v) q.0 w d ne) ∙ e in
         elim (cases_key exact_nat d p.0) [
-          | inl same ↦ (subst (IsOwn rank s.next) (sym same) p_own, subst (λ n. 0 < n) (some_same v n (sym (insert_same exact_nat t.heads p.0 v) ∙ ap (get (insert t.heads p.0 v)) (sym same) ∙ e)) v_not_zero)
-          | inr far ↦ let e = sym (insert_other exact_nat t.heads p.0 v d far) ∙ e in (m.own_heads d n e, m.no_zero_heads d n e)
+          | inl same ↦ subst (IsOwn rank s.next) (sym same) p_own
+          | inr far ↦ m.own_heads d n (sym (insert_other exact_nat t.heads p.0 v d far) ∙ e)
         ]
   ]
 
@@ -221,10 +221,7 @@ module _ (rank : ℕ) (t : Table) (s : PlainState) (is : IsTreeOf rank t s) (q :
     next = m.next;
     first_next = m.first_next;
     next_fits = m.next_fits;
-    above = λ j z f. elim (cases_key exact_place z q) [
-      | inl same ↦ absurd (none_some j (sym (ap full_of at_q) ∙ ap (λ z. full_of (get t1.dentries z)) (sym same) ∙ f))
-      | inr ne ↦ m.above j z (sym (view_same full_of (ap Some (sym its.ino)) z ne) ∙ f)
-    ];
+    above = m.above;
     beneath = m.beneath;
     own_cells = λ z h. elim (cases_key exact_place z q) [
       | inl same ↦ subst (λ (z : ℕ × List ℕ). IsOwn rank s.next z.0) (sym same) q_own
@@ -233,8 +230,7 @@ module _ (rank : ℕ) (t : Table) (s : PlainState) (is : IsTreeOf rank t s) (q :
     stray_names = λ n j e. m.stray_names n j (sym (view_same names (ap Some (sym its.ino)) (stray_ino rank, n) (eq_false exact_place (stray_ino rank, n) q (λ same.
         false≢true (sym (stray_no_dir rank t s is.primary m) ∙ ap (λ (z : ℕ × List ℕ). is_dir s z.0) same ∙ can.parent)))) ∙ e);
     heads = λ d h. head_there d (m.heads d h);
-    own_heads = λ d n e. (head_cases d n e).0;
-    no_zero_heads = λ d n e. (head_cases d n e).1;
+    own_heads = own_heads;
     opens = m.opens;
     open_files = m.open_files;
     few_entries = λ d. more_in (entry_count s d) most_entries (q.0 == d) (entry_count s1 d) (count-insert_new exact_place (λ (e : (ℕ × List ℕ) × ℕ). e.0.0 == d) s.links q i can.free)
@@ -276,7 +272,7 @@ module _ (rank : ℕ) (t : Table) (s : PlainState) (is : IsTreeOf rank t s) (q :
   in_one = both_lump q.0 w p.1 y q.1 ∷ []
 
   high : first_ino rank ≤ i
-  high = m.above i p (m.primary_full i p its.stands)
+  high = m.above i p its.stands
 
   p_stray : p.0 ≡ stray_ino rank → p.1 ≡ hex i
   p_stray e = m.stray_names p.1 i ((λ z. names (get t.dentries (sym e z, p.1))) ∙ ap names its.full ∙ ap Some its.ino)

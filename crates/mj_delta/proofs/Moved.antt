@@ -5,7 +5,7 @@ use Rattle.std.specs.Option.{option_and_then, option_map}
 use Rattle.std.specs.Ordering.{eq_by_cmp}
 use Rattle.std.proofs.lemmas.Bool.{false≢true, cases_Bool, eqb-true}
 use Rattle.mj_base.specs.Name.{is_name}
-use Rattle.mj_base.specs.ObjectName.{hex, stray_ino, first_ino}
+use Rattle.mj_base.specs.ObjectName.{hex, stray_ino}
 use Rattle.mj_base.specs.Record.{IsRecord}
 use Rattle.mj_base.specs.declared.record.Kind.{Kind}
 use Rattle.mj_base.specs.declared.record.InodeRecord.{InodeRecord}
@@ -204,10 +204,7 @@ module _ (rank : ℕ) (t : Table) (s : PlainState) (primary : Places) (m : HasDe
     next = beside.next ∙ m.next;
     first_next = m.first_next;
     next_fits = m.next_fits;
-    above = λ j. by_place (λ x. full_of (get t1.dentries x) ≡ Some j → first_ino rank ≤ j)
-        (λ f. absurd (none_some j (sym (ap full_of at_q) ∙ f)))
-        (λ f. m.above j q (sym (same_full _ _ at_r) ∙ f))
-        (λ x nq nr f. m.above j x (sym (ap full_of (at_other x nq nr)) ∙ f));
+    above = λ j x e. let u = moved_cases j x e in m.above j u.0 u.1;
     beneath = λ j x e. let u = moved_cases j x e in m.beneath j u.0 u.1;
     own_cells = by_place (λ x. IsSome (get t1.dentries x) → IsOwn rank s.next x.0)
         (λ h. absurd (no_cell_q h))
@@ -219,7 +216,6 @@ module _ (rank : ℕ) (t : Table) (s : PlainState) (primary : Places) (m : HasDe
         (λ x nq nr e f. m.stray_names x.1 j (ap (λ d. names (get t.dentries (d, x.1))) (sym e) ∙ sym (ap names (at_other x nq nr)) ∙ f)) (stray_ino rank, n) refl;
     heads = beside.heads.held;
     own_heads = beside.heads.own;
-    no_zero_heads = beside.heads.not_zero;
     opens = beside.opens ∙ m.opens;
     open_files = m.open_files;
     few_entries = entries_moved;

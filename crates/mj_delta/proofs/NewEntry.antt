@@ -38,7 +38,6 @@ pub record CanBegin (s : PlainState) (q : ℕ × List ℕ) (a : Attributes) : Ty
 pub record AreHeadsOf (rank : ℕ) (s : PlainState) (heads : Map nat_cmp ℕ) : Type 0 where
   pub held : (d : ℕ) → is_held rank s d ≡ true → IsSome (get heads d)
   pub own : (d version : ℕ) → get heads d ≡ Some version → IsOwn rank s.next d
-  pub not_zero : (d version : ℕ) → get heads d ≡ Some version → 0 < version
 
 pub own_more : (rank n d : ℕ) → IsOwn rank n d → IsOwn rank (n + 1) d
 own_more rank n d (inl e) = inl e
@@ -51,7 +50,7 @@ own_dir rank t s primary m d h = elim (cases_option (get primary d)) [
     | inl e ↦ inl e
     | inr ne ↦ absurd (elim (dir_cases rank t s primary m d h) [ inl e ↦ ne e | inr w ↦ none_some w.0 (sym none ∙ w.1) ])
   ]
-  | inr w ↦ inr (inr (m.above d w.0 (m.primary_full d w.0 w.1), m.beneath d w.0 w.1))
+  | inr w ↦ inr (inr (m.above d w.0 w.1, m.beneath d w.0 w.1))
 ]
 
 pub more_in : (n limit : ℕ) (b : Bool) (after : ℕ) → after ≡ n + cond b 1 0 → n ≤ limit → (b ≡ true → n < limit) → after ≤ limit
@@ -210,10 +209,7 @@ module _ (rank : ℕ) (t : Table) (s : PlainState) (primary : Places) (m : HasDe
     ];
     first_next = omega (arith, m.first_next);
     next_fits = can.next;
-    above = λ j r f. elim (cases_key exact_place r q) [
-      | inl same ↦ let new = some_same j s.next (sym f ∙ ap (λ r. full_of (get table_new.dentries r)) same ∙ ap full_of dentry_same) in omega (arith, m.first_next, new)
-      | inr ne ↦ m.above j r (sym (ap full_of (dentry_other r ne)) ∙ f)
-    ];
+    above = λ j r e. elim (primary_cases j r e) [ inl w ↦ omega (arith, m.first_next, w.0) | inr w ↦ m.above j r w.1 ];
     beneath = λ j r e. elim (primary_cases j r e) [ inl w ↦ omega (arith, w.0) | inr w ↦ omega (arith, m.beneath j r w.1) ];
     own_cells = λ r h. own_more rank s.next r.0 (elim (cases_key exact_place r q) [
       | inl same ↦ subst (λ (r : ℕ × List ℕ). IsOwn rank s.next r.0) (sym same) (own_dir rank t s primary m q.0 parent)
@@ -223,7 +219,6 @@ module _ (rank : ℕ) (t : Table) (s : PlainState) (primary : Places) (m : HasDe
         false≢true (sym (stray_no_dir rank t s primary m) ∙ ap (λ (r : ℕ × List ℕ). is_dir s r.0) same ∙ parent))))) ∙ e);
     heads = are_heads.held;
     own_heads = are_heads.own;
-    no_zero_heads = are_heads.not_zero;
     opens = m.opens;
     open_files = λ c j h. ap (is_kind File) (insert_other exact_nat s.records s.next a j (eq_false exact_nat j s.next (opened_old j (m.open_files c j h)))) ∙ m.open_files c j h;
     few_entries = λ d. more_in (entry_count s d) most_entries (q.0 == d) (entry_count after_new d) (count-insert_new exact_place (λ (e : (ℕ × List ℕ) × ℕ). e.0.0 == d) s.links q s.next free)

@@ -3,7 +3,7 @@ use Rattle.std.proofs.Common.{◌≡◌, ℕ, ◌<◌, ◌≤◌, Bool, true, fa
 use Rattle.std.specs.Prelude.{◌==◌, nat_eq, nat_lt, nat_le, IsSome, is_none, min, unwrap_or, if◌then◌else◌}
 use Rattle.std.specs.Option.{option_map, option_and_then}
 use Rattle.std.specs.List.{filter, filter_map, AllByRecursion}
-use Rattle.std.proofs.lemmas.Bool.{false≢true, cases_Bool, eqb-true, eq-eqb, and_parts, or_parts, ltb-false, leb-true, leb-false, ltb-true}
+use Rattle.std.proofs.lemmas.Bool.{false≢true, cases_Bool, eqb-true, eq-eqb, and_parts, or_parts, or_cases, ltb-false, leb-true, leb-false, ltb-true}
 use Rattle.mj_base.specs.InOrder.{same_bytes}
 use Rattle.mj_base.specs.ObjectName.{hex, stray_ino, first_ino}
 use Rattle.mj_base.specs.Record.{same_kind}
@@ -20,6 +20,7 @@ use Rattle.mj_cells.specs.Table.{Dentry, Table}
 use Rattle.mj_cells.specs.Table.Dentry.{Remote}
 use Rattle.mj_recovery.specs.Tree.{Entry, ino_of, is_among, full_records, reachable, holding, tree_of}
 use Rattle.mj_recovery.specs.Damage.{first_some, or_less, least, times, inos, headless, twice, is_full_of, lone_remote, miscounted, is_given, misnamed, is_known, low_next, out_of_range, is_bad_open, bad_opens, client_of, opened_by, first_open, replies, is_bad_reply, bad_replies, over, over_entries, over_limit, tree_damage}
+use Rattle.mj_recovery.specs.Orderly.{IsOwn}
 use Rattle.mj_delta.specs.Cells.{next_of}
 use Rattle.mj_delta.proofs.Facts.{cases_option, some_is}
 use Rattle.mj_delta.proofs.Lists.{Lies, in_map, to_map, to_filter_map, at_entry}
@@ -180,12 +181,18 @@ module _ (rank : ℕ) (t : Table) (lumps : List ℕ) where
     range : out_of_range rank (next_of t) (inos rs) lumps es ≡ []
     range = empty_row damage.BadNext (out_of_range rank (next_of t) (inos rs) lumps es) all.1.1.1.1.0
 
-    range_parts : (low_next rank (next_of t) ≡ []) × (filter (λ i. not (is_given rank (next_of t) i)) (inos rs) ≡ []) × (filter_map (misnamed rank) es ≡ [])
+    range_parts : (low_next rank (next_of t) ≡ []) × (filter (λ i. not (is_given rank (next_of t) i)) (inos rs) ≡ []) × (filter (λ d. not (is_known rank (next_of t) d)) lumps ≡ []) × (filter_map (misnamed rank) es ≡ [])
     range_parts =
         let a = no_parts (low_next rank (next_of t) ++ filter (λ i. not (is_given rank (next_of t) i)) (inos rs) ++ filter (λ d. not (is_known rank (next_of t) d)) lumps) (filter_map (misnamed rank) es) range in
         let b = no_parts (low_next rank (next_of t) ++ filter (λ i. not (is_given rank (next_of t) i)) (inos rs)) (filter (λ d. not (is_known rank (next_of t) d)) lumps) a.0 in
         let c = no_parts (low_next rank (next_of t)) (filter (λ i. not (is_given rank (next_of t) i)) (inos rs)) b.0 in
-        (c.0, c.1, a.1)
+        (c.0, c.1, b.1, a.1)
+
+    -- each directory of a lump is the root, stray or given
+    pub lumps_known : filter (λ d. not (is_known rank (next_of t) d)) lumps ≡ []
+    lumps_known =
+        let a = no_parts (low_next rank (next_of t) ++ filter (λ i. not (is_given rank (next_of t) i)) (inos rs) ++ filter (λ d. not (is_known rank (next_of t) d)) lumps) (filter_map (misnamed rank) es) range in
+        (no_parts (low_next rank (next_of t) ++ filter (λ i. not (is_given rank (next_of t) i)) (inos rs)) (filter (λ d. not (is_known rank (next_of t) d)) lumps) a.0).1
 
     pub next_high : first_ino rank ≤ next_of t
     next_high = high (nat_lt (next_of t) (first_ino rank)) refl range_parts.0
@@ -194,14 +201,23 @@ module _ (rank : ℕ) (t : Table) (lumps : List ℕ) where
         high true e f = absurd cc
         high false e f = ltb-false (next_of t) (first_ino rank) e
 
-    pub full_given : (r : InodeRecord) → Lies r rs → r.ino < next_of t
+    pub full_given : (r : InodeRecord) → Lies r rs → (first_ino rank ≤ r.ino) × (r.ino < next_of t)
     full_given r l =
         let given = not_not _ (none_passes (λ i. not (is_given rank (next_of t) i)) (inos rs) r.ino range_parts.1 (to_map (λ (r : InodeRecord). r.ino) rs r l)) in
-        ltb-true r.ino (next_of t) (and_parts _ _ given).1
+        (leb-true (first_ino rank) r.ino (and_parts _ _ given).0, ltb-true r.ino (next_of t) (and_parts _ _ given).1)
+
+    -- each directory of a lump is the rank's own
+    pub lump_own : (d : ℕ) → Lies d lumps → IsOwn rank (next_of t) d
+    lump_own d l =
+        let known : is_known rank (next_of t) d ≡ true = not_not _ (none_passes (λ d. not (is_known rank (next_of t) d)) lumps d range_parts.2 l) in
+        elim (or_cases ((d == root) || (d == stray_ino rank)) (is_given rank (next_of t) d) known) [
+          | inl named ↦ elim (or_cases (d == root) (d == stray_ino rank) named) [ inl e ↦ inl (eqb-true d root e) | inr e ↦ inr (inl (eqb-true d (stray_ino rank) e)) ]
+          | inr given ↦ let both = and_parts _ _ given in inr (inr (leb-true (first_ino rank) d both.0, ltb-true d (next_of t) both.1))
+        ]
 
     pub stray_named : (q : ℕ × List ℕ) (d : Dentry) → get t.dentries q ≡ Some d → q.0 ≡ stray_ino rank → q.1 ≡ hex (ino_of d)
     stray_named q d e st =
-        let none = none_given (misnamed rank) es (q, d) range_parts.2 (at_entry exact_place t.dentries q d e) in
+        let none = none_given (misnamed rank) es (q, d) range_parts.3 (at_entry exact_place t.dentries q d e) in
         same_names q.1 (hex (ino_of d)) (named (q.0 == stray_ino rank) (same_bytes q.1 (hex (ino_of d))) (eq-eqb q.0 (stray_ino rank) st) none)
       where
         named : (a b : Bool) → a ≡ true → (if a && not b then Some (ino_of d) else None) ≡ None → b ≡ true

@@ -102,7 +102,6 @@ module _ (rank : ℕ) (t : Table) (s : PlainState) (is : IsTreeOf rank t s) (cli
       stray_names = m.stray_names;
       heads = m.heads;
       own_heads = m.own_heads;
-      no_zero_heads = m.no_zero_heads;
       opens = ap (λ (x : Set pair_cmp). remove x (client, i)) m.opens;
       open_files = λ c j h. m.open_files c j (still_open c j h);
       few_entries = m.few_entries;
@@ -223,10 +222,10 @@ module _ (rank : ℕ) (t : Table) (s : PlainState) (is : IsTreeOf rank t s) (cli
     not_zero : 0 < v
     not_zero = omega arith
 
-    head_cases : (d n : ℕ) → get t1.heads d ≡ Some n → IsOwn rank s.next d × (0 < n)
-    head_cases d n e = elim (cases_key exact_nat d (stray_ino rank)) [
-      | inl same ↦ (inr (inl same), subst (λ n. 0 < n) (some_same v n (sym (insert_same exact_nat t.heads (stray_ino rank) v) ∙ ap (get t1.heads) (sym same) ∙ e)) not_zero)
-      | inr ne ↦ let old = sym (insert_other exact_nat t.heads (stray_ino rank) v d ne) ∙ e in (m.own_heads d n old, m.no_zero_heads d n old)
+    own_heads : (d n : ℕ) → get t1.heads d ≡ Some n → IsOwn rank s.next d
+    own_heads d n e = elim (cases_key exact_nat d (stray_ino rank)) [
+      | inl same ↦ inr (inl same)
+      | inr ne ↦ m.own_heads d n (sym (insert_other exact_nat t.heads (stray_ino rank) v d ne) ∙ e)
     ]
 
     link_named : (q : ℕ × List ℕ) → is_dir s q.0 ≡ true → eq_by_cmp place_cmp q z0 ≡ false
@@ -259,7 +258,7 @@ module _ (rank : ℕ) (t : Table) (s : PlainState) (is : IsTreeOf rank t s) (cli
       next = m.next;
       first_next = m.first_next;
       next_fits = m.next_fits;
-      above = λ j q f. m.above j q (still full_of refl q j f).1;
+      above = λ j q e. m.above j q (primary_cases j q e).1;
       beneath = λ j q e. m.beneath j q (primary_cases j q e).1;
       own_cells = λ q h. m.own_cells q (some_still q h);
       stray_names = λ n j e. m.stray_names n j (still names refl (stray_ino rank, n) j e).1;
@@ -267,8 +266,7 @@ module _ (rank : ℕ) (t : Table) (s : PlainState) (is : IsTreeOf rank t s) (cli
         | inl same ↦ is_some_at _ v (ap (get t1.heads) same ∙ insert_same exact_nat t.heads (stray_ino rank) v)
         | inr ne ↦ subst (λ o. IsSome o) (sym (insert_other exact_nat t.heads (stray_ino rank) v d ne)) (m.heads d (sym (held_same d) ∙ h))
       ];
-      own_heads = λ d n e. (head_cases d n e).0;
-      no_zero_heads = λ d n e. (head_cases d n e).1;
+      own_heads = own_heads;
       opens = ap (λ (x : Set pair_cmp). remove x (client, i)) m.opens;
       open_files = λ c j h. kind_same File j (not_open c j h) ∙ m.open_files c j (still_open c j h);
       few_entries = m.few_entries;

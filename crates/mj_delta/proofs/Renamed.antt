@@ -21,7 +21,7 @@ use Rattle.mj_delta.specs.Events.{next_version}
 use Rattle.mj_delta.specs.Plan.Naming.{Full, Remote}
 use Rattle.mj_delta.specs.Plan.{Naming, naming, Plan, lumps_of, move_plan, move_event}
 use Rattle.mj_delta.specs.Steps.{GivesTree}
-use Rattle.mj_delta.proofs.Facts.{ids, link_parent, link_range, remote_named, stray_no_dir}
+use Rattle.mj_delta.proofs.Facts.{ids, held_dir, link_parent, link_range, remote_named, stray_no_dir}
 use Rattle.mj_delta.proofs.NewEntry.{own_dir}
 use Rattle.mj_delta.proofs.Decided.{CanMove, meant, effect_found}
 use Rattle.mj_delta.proofs.Updated.{IsPlan, update_gives}
@@ -48,7 +48,7 @@ module _ (rank : ℕ) (t : Table) (s : PlainState) (primary : Places) (m : HasDe
   -- what a dentry of a directory says has a spelling at each place of a directory
   said_fits : (x r : ℕ × List ℕ) → is_dir s x.0 ≡ true → is_dir s r.0 ≡ true → (d : Option Dentry) → get t.dentries x ≡ d → NamingFits rank r (naming d)
   said_fits x r from to None e = tt
-  said_fits x r from to (Some (FullAt v z)) e = (m.records_fit x v z e, m.above z.ino x (ap full_of e), λ st. absurd (false≢true (sym (stray_no_dir rank t s primary m) ∙ ap (is_dir s) (sym st) ∙ to)))
+  said_fits x r from to (Some (FullAt v z)) e = (m.records_fit x v z e, m.above z.ino x (m.each_primary z.ino x (held_dir rank t s primary m x.0 from) (ap full_of e)), λ st. absurd (false≢true (sym (stray_no_dir rank t s primary m) ∙ ap (is_dir s) (sym st) ∙ to)))
   said_fits x r from to (Some (RemoteAt v j k)) e =
       let rem : remote_of (get t.dentries x) ≡ Some (j, k) = ap remote_of e in
       let l : get s.links x ≡ Some j = m.links x ∙ (λ z. cond (from z) (names (get t.dentries x)) None) ∙ remote_named _ j k rem in

@@ -187,7 +187,7 @@ module _ (rank : ℕ) (t : Table) (s : PlainState) (is : IsTreeOf rank t s) (q r
     between_other x nr ny = remove_other exact_place (insert t.dentries y (FullAt (next_version t y.0) full)) r x (eq_false exact_place x r nr) ∙ insert_other exact_place t.dentries y (FullAt (next_version t y.0) full) x (eq_false exact_place x y ny)
 
     beside_between : Beside rank t cut between
-    beside_between = record { next = refl; opens = refl; heads = record { held = m.heads; own = m.own_heads; not_zero = m.no_zero_heads } }
+    beside_between = record { next = refl; opens = refl; heads = record { held = m.heads; own = m.own_heads } }
 
     abbrev primary_between : Places
     primary_between = primary_cut rank t s is.primary m r j can.target it.place it.stands stays no_dir a (ap said_by it.full) (lessened_fits rank t s is.primary m r j can.target) y place_left between (next_version t y.0) between_r between_y between_other beside_between
@@ -296,7 +296,7 @@ module _ (rank : ℕ) (t : Table) (s : PlainState) (is : IsTreeOf rank t s) (q r
     without_other x nr np = remove_other exact_place (remove t.dentries p) r x (eq_false exact_place x r nr) ∙ remove_other exact_place t.dentries p x (eq_false exact_place x p np)
 
     beside_without : Beside rank t gone without
-    beside_without = record { next = refl; opens = refl; heads = record { held = λ d h. m.heads d (was_held d h); own = m.own_heads; not_zero = m.no_zero_heads } }
+    beside_without = record { next = refl; opens = refl; heads = record { held = λ d h. m.heads d (was_held d h); own = m.own_heads } }
 
     abbrev primary_without : Places
     primary_without = primary_gone rank t s is.primary m r j can.target p it.stands goes no_names a it.said without without_r without_p without_other beside_without

@@ -146,9 +146,9 @@ module _ (rank : ℕ) (t : Table) (s : PlainState) (is : IsTreeOf rank t s) (i :
   not_zero : 0 < v
   not_zero = omega arith
 
-  head_cases : (d w : ℕ) → get t1.heads d ≡ Some w → ((d ≡ p.0) × (w ≡ v)) ⊎ (get t.heads d ≡ Some w)
+  head_cases : (d w : ℕ) → get t1.heads d ≡ Some w → (d ≡ p.0) ⊎ (get t.heads d ≡ Some w)
   head_cases d w e = elim (cases_key exact_nat d p.0) [
-    | inl same ↦ inl (same, some_same w v (sym e ∙ ap (get t1.heads) same ∙ insert_same exact_nat t.heads p.0 v))
+    | inl same ↦ inl same
     | inr ne ↦ inr (sym (insert_other exact_nat t.heads p.0 v d ne) ∙ e)
   ]
 
@@ -167,7 +167,7 @@ module _ (rank : ℕ) (t : Table) (s : PlainState) (is : IsTreeOf rank t s) (i :
     next = m.next;
     first_next = m.first_next;
     next_fits = m.next_fits;
-    above = λ j q f. m.above j q (sym (full_same q) ∙ f);
+    above = m.above;
     beneath = m.beneath;
     own_cells = λ q h. m.own_cells q (sym (there_same q) ∙ h);
     stray_names = λ n j e. m.stray_names n j (sym (names_same (stray_ino rank, n)) ∙ e);
@@ -175,8 +175,7 @@ module _ (rank : ℕ) (t : Table) (s : PlainState) (is : IsTreeOf rank t s) (i :
       | inl same ↦ is_some_at _ v (ap (get t1.heads) same ∙ insert_same exact_nat t.heads p.0 v)
       | inr ne ↦ subst (λ o. IsSome o) (sym (insert_other exact_nat t.heads p.0 v d ne)) (m.heads d (sym (held_same d) ∙ h))
     ];
-    own_heads = λ d w e. elim (head_cases d w e) [ inl z ↦ subst (IsOwn rank s.next) (sym z.0) own | inr before ↦ m.own_heads d w before ];
-    no_zero_heads = λ d w e. elim (head_cases d w e) [ inl z ↦ subst (λ n. 0 < n) (sym z.1) not_zero | inr before ↦ m.no_zero_heads d w before ];
+    own_heads = λ d w e. elim (head_cases d w e) [ inl z ↦ subst (IsOwn rank s.next) (sym z) own | inr before ↦ m.own_heads d w before ];
     opens = m.opens;
     open_files = λ c j h. kind_same File j ∙ m.open_files c j h;
     few_entries = m.few_entries;
@@ -253,7 +252,7 @@ module _ (rank : ℕ) (t : Table) (s : PlainState) (is : IsTreeOf rank t s) (i :
           own_fits (inr (inr given)) = omega (arith, given.1, m.next_fits)
 
       high : first_ino rank ≤ i
-      high = m.above i p (m.primary_full i p its.stands)
+      high = m.above i p its.stands
 
       stray_named : p.0 ≡ stray_ino rank → p.1 ≡ hex i
       stray_named e = m.stray_names p.1 i ((λ z. names (get t.dentries (sym e z, p.1))) ∙ ap names its.full ∙ ap Some its.ino)

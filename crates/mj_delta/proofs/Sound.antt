@@ -97,7 +97,7 @@ module _ (rank : ℕ) (t : Table) (s : PlainState) (is : IsTreeOf rank t s) wher
       false≢true (sym (ap is_none h.1) ∙ w.1)
 
   full_high : (r : InodeRecord) → Lies r rs → first_ino rank ≤ r.ino
-  full_high r l = let f = listed_full rank t s is r l in m.above r.ino f.0 (ap full_of f.2)
+  full_high r l = let f = listed_full rank t s is r l in m.above r.ino f.0 f.3
 
   abbrev is_of : ℕ → Entry → Bool
   is_of i e = option_map_or (λ (r : InodeRecord). i == r.ino) (full_record (holding rank t) e) false

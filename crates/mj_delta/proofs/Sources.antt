@@ -1,10 +1,8 @@
 -- Where the cells of an image's merged table come from, and that they are such as the rank would write.
-use Rattle.std.proofs.Common.{◌≡◌, ℕ, ◌<◌, ◌≤◌, ◌^◌, true, false, List, [], ◌∷◌, ◌++◌, map, Option, Some, None, refl, sym, ap, subst, ◌∙◌, ◌⊎◌, inl, inr, arith}
+use Rattle.std.proofs.Common.{◌≡◌, ℕ, ◌<◌, ◌^◌, true, false, List, [], ◌∷◌, ◌++◌, map, Option, Some, None, refl, sym, ap, subst, ◌∙◌, ◌⊎◌, inl, inr, arith}
 use Rattle.std.specs.Prelude.{IsTrue, unwrap_or, if◌then◌else◌}
 use Rattle.std.specs.List.{flat_map, AllByRecursion}
-use Rattle.std.proofs.lemmas.Bool.{cases_eq}
 use Rattle.mj_base.specs.Name.{is_name}
-use Rattle.mj_base.specs.ObjectName.{first_ino}
 use Rattle.mj_base.specs.declared.record.Kind.{Kind}
 use Rattle.mj_base.specs.declared.record.InodeRecord.{InodeRecord}
 use Rattle.mj_base.specs.declared.object.ObjectName.{ObjectName}
@@ -38,12 +36,12 @@ use Rattle.mj_recovery.specs.Journal.{journal_writes}
 use Rattle.mj_recovery.specs.Damage.{lump_dirs, head_written, tree_damage}
 use Rattle.mj_recovery.specs.Tree.{tree_of}
 use Rattle.mj_recovery.specs.Recovered.{merged_table}
-use Rattle.mj_recovery.specs.Orderly.{IsOwn, HasHighInode, HasNoZeroHead, EachStored, IsOrderly}
+use Rattle.mj_recovery.specs.Orderly.{IsOwn, EachStored, IsOrderly}
 use Rattle.mj_recovery.proofs.Stores.{merged_look}
-use Rattle.mj_delta.specs.Reads.{full_of, remote_of}
+use Rattle.mj_delta.specs.Reads.{remote_of}
 use Rattle.mj_delta.specs.TreeOf.{IsTreeOf}
-use Rattle.mj_delta.specs.Cells.{next_of, HasOwnCells, IsSpelled, HoldsOwnDirs}
-use Rattle.mj_delta.proofs.Facts.{full_cell, some_is}
+use Rattle.mj_delta.specs.Cells.{next_of, HasSpelling, HasOwnCells, IsSpelled, HoldsOwnDirs}
+use Rattle.mj_delta.proofs.Facts.{some_is}
 use Rattle.mj_delta.proofs.Lists.{Lies, all_lies, in_append, in_map, to_filter_map}
 use Rattle.mj_delta.proofs.Plans.{in_flat_map, to_flat_map, to_right}
 use Rattle.mj_delta.proofs.Contents.{lies_contains}
@@ -52,7 +50,7 @@ use Rattle.mj_delta.proofs.Undamaged.{undamaged_tree}
 
 -- ---- the write that a cell is from
 
-found_last : (k : CellKey) (ws : List CellWrite) (before v : CellValue) → last_of k ws before ≡ v → (before ≡ v) ⊎ ((w : CellWrite) × Lies w ws × (same_key k w.key ≡ true) × (shown w.key w.value ≡ v))
+pub found_last : (k : CellKey) (ws : List CellWrite) (before v : CellValue) → last_of k ws before ≡ v → (before ≡ v) ⊎ ((w : CellWrite) × Lies w ws × (same_key k w.key ≡ true) × (shown w.key w.value ≡ v))
 found_last k [] before v e = inl e
 found_last k (w ∷ ws) before v e = elim (found_last k ws (if same_key k w.key then shown w.key w.value else before) v e) [
   | inr x ↦ inr (x.0, inr x.1, x.2, x.3)
@@ -153,7 +151,7 @@ lump_head l d n v m = elim (lump_dentry l (write (key.Dentry d n) v) m) [
     no_head : key.DirHead l.dir ≡ key.Dentry d n → ⊥
     no_head f = absurd cc
 
-head_beside : (e : Event) (d : ℕ) (n : List ℕ) (v : CellValue) → Lies (write (key.Dentry d n) v) (writes_of e) → (h : CellValue) × Lies (write (key.DirHead d) h) (writes_of e)
+pub head_beside : (e : Event) (d : ℕ) (n : List ℕ) (v : CellValue) → Lies (write (key.Dentry d n) v) (writes_of e) → (h : CellValue) × Lies (write (key.DirHead d) h) (writes_of e)
 head_beside (event.SubtreeMap dirs) d n v l = absurd l
 head_beside event.Reset d n v l = absurd l
 head_beside (event.NoOp pad) d n v l = absurd l
@@ -248,9 +246,6 @@ module _ (rank : ℕ) (m : Objects) (events : List LiveEvent) (next : ℕ) (orde
   remote_from : (q : ℕ × List ℕ) (v i : ℕ) (k : Kind) → get t.dentries q ≡ Some (RemoteAt v i k) → (P : CellWrite → Type 0) → AllByRecursion P (journal_writes events) → EachStored (get m) P → P (write (key.Dentry q.0 q.1) (value.Remote v i k))
   remote_from q v i k e P a b = let f = dentry_from q (RemoteAt v i k) e in subst P (λ z. write (f.key_is z) (shown_remote f.it.value v i k f.value_is z)) (holds P a b (key.Dentry q.0 q.1) (value.Remote v i k) f)
 
-  number_from_head : (d v : ℕ) → get t.heads d ≡ Some v → (P : CellWrite → Type 0) → AllByRecursion P (journal_writes events) → EachStored (get m) P → P (write (key.DirHead d) (value.Number v))
-  number_from_head d v e P a b = let f = head_from d v e in subst P (λ z. write (f.key_is z) (shown_number f.it.value v f.value_is z)) (holds P a b (key.DirHead d) (value.Number v) f)
-
   -- ---- directories
 
   own_of : (d : ℕ) (o : Content) (w : CellWrite) → get m (name.File d 0) ≡ Some o → Lies w (object_cells (name.File d 0) o) → IsOwn rank next d
@@ -295,11 +290,6 @@ module _ (rank : ℕ) (m : Objects) (events : List LiveEvent) (next : ℕ) (orde
   -- ---- together
 
   module _ (next_is : next ≡ next_of t) where
-    full_high : (i : ℕ) (q : ℕ × List ℕ) → full_of (get t.dentries q) ≡ Some i → first_ino rank ≤ i
-    full_high i q e =
-        let c = full_cell (get t.dentries q) i e in
-        subst (λ i. first_ino rank ≤ i) c.3 (full_from q c.0 c.1 c.2 (HasHighInode rank) orderly.live_inodes orderly.stored_inodes)
-
     next_small : next_of t < 2 ^ 64
     next_small = by t.next refl
       where
@@ -326,26 +316,26 @@ module _ (rank : ℕ) (m : Objects) (events : List LiveEvent) (next : ℕ) (orde
     name_fits q (FullAt v r) e = (full_from q v r e IsSpelled live stored).0
     name_fits q (RemoteAt v i k) e = (remote_from q v i k e IsSpelled live stored).0
 
-    own_cells : HasOwnCells rank t
-    own_cells = record {
+    spelled : HasSpelling t
+    spelled = record {
       next_fits = next_small;
-      above = full_high;
-      own_cells = λ q h. let w = some_is (get t.dentries q) h in subst (λ n. IsOwn rank n q.0) next_is (dentry_own q w.0 w.1);
-      own_heads = λ d v e. subst (λ n. IsOwn rank n d) next_is (head_own d v e);
-      no_zero_heads = λ d v e. let nz = number_from_head d v e HasNoZeroHead orderly.live_heads orderly.stored_heads in above_zero v nz;
       remote_no_dir = λ q i k e. let c = remote_cell (get t.dentries q) i k e in (remote_from q c.0 i k c.1 IsSpelled live stored).1;
       names_fit = λ q h. let w = some_is (get t.dentries q) h in name_fits q w.0 w.1;
       records_fit = λ q v r e. (full_from q v r e IsSpelled live stored).1;
       tids_fit = tid_fits;
     }
       where
-        above_zero : (v : ℕ) → (v ≡ 0 → ⊥) → 0 < v
-        above_zero v ne = elim (cases_eq v 0) [ inl e ↦ absurd (ne e) | inr far ↦ omega (arith, far) ]
-
         remote_cell : (o : Option Dentry) (i : ℕ) (k : Kind) → remote_of o ≡ Some (i, k) → (w : ℕ) × (o ≡ Some (RemoteAt w i k))
         remote_cell None i k f = absurd (none_some (i, k) f)
         remote_cell (Some (FullAt w y)) i k f = absurd (none_some (i, k) f)
         remote_cell (Some (RemoteAt w j l)) i k f = let pair = some_same (j, l) (i, k) f in (w, λ z. Some (RemoteAt w (pair z).0 (pair z).1))
+
+    own_cells : HasOwnCells rank t
+    own_cells = record {
+      spelled = spelled;
+      own_cells = λ q h. let w = some_is (get t.dentries q) h in subst (λ n. IsOwn rank n q.0) next_is (dentry_own q w.0 w.1);
+      own_heads = λ d v e. subst (λ n. IsOwn rank n d) next_is (head_own d v e);
+    }
 
     pub merged_tree : tree_damage rank t (lump_dirs (journal_writes events)) ≡ None → IsTreeOf rank t (tree_of rank t)
     merged_tree none = undamaged_tree rank t (lump_dirs (journal_writes events)) none own_cells

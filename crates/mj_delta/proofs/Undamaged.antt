@@ -1,4 +1,4 @@
--- A table without damage has a tree, where its cells are such as the rank would write.
+-- A table without damage has a tree, where each cell has a spelling and each directory with a cell is the rank's own.
 use Rattle.std.proofs.Common.{◌≡◌, ℕ, ◌+◌, ◌<◌, ◌≤◌, ◌^◌, Bool, true, false, cond, List, [], ◌∷◌, length, map, Option, Some, None, refl, sym, ap, subst, ◌∙◌, ◌⊎◌, inl, inr, arith}
 use Rattle.std.specs.Prelude.{◌==◌, nat_eq, IsSome, unwrap_or, if◌then◌else◌}
 use Rattle.std.specs.Option.{option_and_then, option_map_or}
@@ -20,19 +20,20 @@ use Rattle.mj_cells.specs.Table.{Dentry, Table}
 use Rattle.mj_cells.specs.Table.Dentry.{Full, Remote}
 use Rattle.mj_recovery.specs.Tree.{Entry, ino_of, subdir, is_among, reachable, holding, full_record, full_records, primaries, IsReachable, reply_of, session_in, link_in, record_in, bare_tree, tree_of}
 use Rattle.mj_recovery.specs.Tree.IsReachable.{at_root as top, below as under}
-use Rattle.mj_recovery.specs.Damage.{replies, tree_damage}
+use Rattle.mj_recovery.specs.Damage.{replies, tree_damage, cell_dirs}
 use Rattle.mj_recovery.specs.Orderly.{IsOwn}
 use Rattle.mj_recovery.proofs.Reaching.{reached_sound, reached_complete}
 use Rattle.mj_delta.specs.Reads.{Places, names, full_of, said_by, stored_links, remote_of, cell_of, kind_of, is_held}
 use Rattle.mj_delta.specs.TreeOf.{IsReached, HasDentries, HasSessions, IsTreeOf, oldest_of}
 use Rattle.mj_delta.specs.TreeOf.IsReached.{at_root, below}
-use Rattle.mj_delta.specs.Cells.{next_of, HasOwnCells}
+use Rattle.mj_delta.specs.Cells.{next_of, HasSpelling, HasOwnCells}
 use Rattle.mj_delta.proofs.Facts.{ids, cases_option, cond_same, cond_is, some_is, is_some_at, full_cell, named_cases, kind_record}
 use Rattle.mj_delta.proofs.OneTree.{same_bool, subdir_full, full_subdir}
 use Rattle.mj_delta.proofs.Lists.{Lies, in_map, to_map, in_filter_map, to_filter_map, entry_at, at_entry, found_in, found_some, passing_option}
+use Rattle.mj_delta.proofs.Plans.{to_left, to_right}
 use Rattle.mj_delta.proofs.TreeIs.{full_entry, entry_full, same_find}
 use Rattle.mj_delta.proofs.Sound.{times_passing, replies_passing, sorted_in}
-use Rattle.mj_delta.proofs.NoRows.{head_there, stands_once, full_of_remote, links_counted, next_high, full_given, stray_named, open_good, reply_good, few_in, few_records, few_clients, few_held}
+use Rattle.mj_delta.proofs.NoRows.{head_there, stands_once, full_of_remote, links_counted, next_high, full_given, lump_own, stray_named, open_good, reply_good, few_in, few_records, few_clients, few_held}
 
 -- the place of a full dentry in these directories, by its inode
 abbrev full_place_of : List ℕ → Entry → Option (ℕ × (ℕ × List ℕ))
@@ -225,7 +226,7 @@ module _ (rank : ℕ) (t : Table) (lumps : List ℕ) (none : tree_damage rank t 
               let f = lies_full y.0 y.1 in
               let same = one_place f.0 q f.1 v y.0 r f.2 held f.3 e y.2 in
               let one : y.0 ≡ r = one_full (some_same (Full f.1 y.0) (Full v r) (sym f.3 ∙ ap (get t.dentries) same ∙ e)) in
-              false≢true (sym (own.remote_no_dir x.0 r.ino rem.0 rem.1) ∙ ap (λ k. same_kind k Dir) (sym y.3 ∙ ap (λ (x : InodeRecord). x.kind) one) ∙ dir)
+              false≢true (sym (own.spelled.remote_no_dir x.0 r.ino rem.0 rem.1) ∙ ap (λ k. same_kind k Dir) (sym y.3 ∙ ap (λ (x : InodeRecord). x.kind) one) ∙ dir)
         ]
     | inl no_links ↦ elim (count_cases exact_pair (λ (e : (ℕ × ℕ) × Unit {0}). e.0.1 == r.ino) s.opens) [
       | inl no_opens ↦ let some = ltb-true 0 (link_count s r.ino + open_count s r.ino) kept in omega (arith, some, no_links, no_opens)
@@ -323,25 +324,24 @@ module _ (rank : ℕ) (t : Table) (lumps : List ℕ) (none : tree_damage rank t 
         let y = full_of_remote rank t lumps none q cell.0 i k (dir_reach q.0 dir) cell.1 in
         let f = lies_full y.0 y.1 in
         ap (λ o. kind_of (said_by (option_and_then (get t.dentries) o))) (is_place i f.0 f.1 y.0 f.2 f.3 y.2) ∙ ap (λ o. kind_of (said_by o)) f.3 ∙ ap Some y.3;
-    remote_no_dir = λ q i k _ e. own.remote_no_dir q i k e;
+    remote_no_dir = λ q i k _ e. own.spelled.remote_no_dir q i k e;
     counts = λ i q e. let x = place_is i q e in ap stored_links x.3 ∙ links_counted rank t lumps none x.2 (full_lies q x.1 x.2 x.0 x.3) ∙ ap (link_count s) x.4;
     next = next_there;
     first_next = subst (λ n. first_ino rank ≤ n) (sym next_is) (next_high rank t lumps none);
-    next_fits = subst (λ n. n < 2 ^ 64) (sym next_is) own.next_fits;
-    above = own.above;
-    beneath = λ i q e. let x = place_is i q e in subst (λ n. i < n) (sym next_is) (subst (λ i. i < next_of t) x.4 (full_given rank t lumps none x.2 (full_lies q x.1 x.2 x.0 x.3)));
+    next_fits = subst (λ n. n < 2 ^ 64) (sym next_is) own.spelled.next_fits;
+    above = λ i q e. let x = place_is i q e in subst (λ i. first_ino rank ≤ i) x.4 (full_given rank t lumps none x.2 (full_lies q x.1 x.2 x.0 x.3)).0;
+    beneath = λ i q e. let x = place_is i q e in subst (λ n. i < n) (sym next_is) (subst (λ i. i < next_of t) x.4 (full_given rank t lumps none x.2 (full_lies q x.1 x.2 x.0 x.3)).1);
     own_cells = λ q h. subst (λ n. IsOwn rank n q.0) (sym next_is) (own.own_cells q h);
     stray_names = λ n i e. let d = some_named (get t.dentries (stray_ino rank, n)) i e in stray_named rank t lumps none (stray_ino rank, n) d.0 d.1 refl ∙ ap hex d.2;
     heads = λ d h. head_there rank t lumps none d (held_is d h);
     own_heads = λ d v e. subst (λ n. IsOwn rank n d) (sym next_is) (own.own_heads d v e);
-    no_zero_heads = own.no_zero_heads;
     opens = sym opens_are;
     open_files = λ c i h. (open_good rank t lumps none c i (subst (λ (m : Map pair_cmp (Unit {0})). IsSome (get m (c, i))) opens_are h)).1;
     few_entries = few_everywhere;
     few_inodes = few_records rank t lumps none;
     few_opens = few_held rank t lumps none;
-    names_fit = own.names_fit;
-    records_fit = own.records_fit;
+    names_fit = own.spelled.names_fit;
+    records_fit = own.spelled.records_fit;
   }
     where
       remote_cell : (o : Option Dentry) (i : ℕ) (k : Kind) → remote_of o ≡ Some (i, k) → (w : ℕ) × (o ≡ Some (Remote w i k))
@@ -409,7 +409,7 @@ module _ (rank : ℕ) (t : Table) (lumps : List ℕ) (none : tree_damage rank t 
         let l = len-from_entries exact_nat (filter_map (reply_of client) (entries t.done)) (sorted_in client (entries t.done) (entries_sorted t.done)) in
         let same : len c.kept ≡ len (from_entries {R = nat_cmp} (filter_map (reply_of client) (entries t.done))) = ap (λ (c : Session). len c.kept) x.2 in
         omega (arith, same, l, replies_few client);
-    tids_fit = λ client c tid i e k. own.tids_fit client tid i (reply_kept client c tid i e k);
+    tids_fit = λ client c tid i e k. own.spelled.tids_fit client tid i (reply_kept client c tid i e k);
     few_sessions = few_clients rank t lumps none;
     open_sessions = λ client i h.
         let w = some_is (get t.sessions client) (open_good rank t lumps none client i (subst (λ (m : Map pair_cmp (Unit {0})). IsSome (get m (client, i))) opens_are h)).0 in
@@ -418,3 +418,20 @@ module _ (rank : ℕ) (t : Table) (lumps : List ℕ) (none : tree_damage rank t 
 
   pub undamaged_tree : IsTreeOf rank t (tree_of rank t)
   undamaged_tree = record { primary = places; dentries = undamaged_dentries; sessions = undamaged_sessions; reached = λ d h. reached_by d (reached_sound t d (dir_reach d h)) }
+
+-- where each cell has a spelling, and each directory with a cell counts as one of a lump
+module _ (rank : ℕ) (t : Table) (none : tree_damage rank t (cell_dirs t) ≡ None) (spelled : HasSpelling t) where
+  own_cells : HasOwnCells rank t
+  own_cells = record {
+    spelled = spelled;
+    own_cells = λ q h.
+        let w = some_is (get t.dentries q) h in
+        let l = to_map (λ (e : Entry). e.0.0) (entries t.dentries) (q, w.0) (at_entry exact_place t.dentries q w.0 w.1) in
+        lump_own rank t (cell_dirs t) none q.0 (to_left _ (map (λ (e : ℕ × ℕ). e.0) (entries t.heads)) q.0 l);
+    own_heads = λ d v e.
+        let l = to_map (λ (e : ℕ × ℕ). e.0) (entries t.heads) (d, v) (at_entry exact_nat t.heads d v e) in
+        lump_own rank t (cell_dirs t) none d (to_right (map (λ (e : Entry). e.0.0) (entries t.dentries)) _ d l);
+  }
+
+  pub spelled_tree : IsTreeOf rank t (tree_of rank t)
+  spelled_tree = undamaged_tree rank t (cell_dirs t) none own_cells

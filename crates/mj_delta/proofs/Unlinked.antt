@@ -116,7 +116,7 @@ module _ (rank : ℕ) (t : Table) (s : PlainState) (primary : Places) (m : HasDe
   its_fits = linked_fits rank t s primary m i (record { place = q; link = link })
 
   pub its_above : first_ino rank ≤ i
-  its_above = m.above i p (m.primary_full i p its.stands)
+  its_above = m.above i p its.stands
 
   pub lessened_fits : IsRecord lessened
   lessened_fits =

@@ -143,7 +143,7 @@ module _ (rank : ℕ) (t : Table) (s : PlainState) (primary : Places) (m : HasDe
     primary_dir : (j : ℕ) (x : ℕ × List ℕ) → get primary j ≡ Some x → x.0 ≡ i → ⊥
     primary_dir j x e z = elim (held_cases rank t s primary m x.0 (m.primary_held j x e)) [
       | inl d ↦ none_some j (sym (no_entries x.1) ∙ ap (λ d. get s.links (d, x.1)) (sym z) ∙ link_at rank t s primary m q i link p at x j d (full_named _ j (m.primary_full j x e)))
-      | inr st ↦ omega (arith, (ids rank).below, m.above i p (m.primary_full i p at), z, st)
+      | inr st ↦ omega (arith, (ids rank).below, m.above i p at, z, st)
     ]
 
     pub gone_dentries : HasDentries rank t1 gone primary_gone
@@ -168,13 +168,12 @@ module _ (rank : ℕ) (t : Table) (s : PlainState) (primary : Places) (m : HasDe
       next = beside.next ∙ m.next;
       first_next = m.first_next;
       next_fits = m.next_fits;
-      above = λ j x f. m.above j x (still full_of refl x j f).1;
+      above = λ j x e. m.above j x (gone_cases j x e).1;
       beneath = λ j x e. m.beneath j x (gone_cases j x e).1;
       own_cells = λ x h. m.own_cells x (some_still x h);
       stray_names = λ n j e. m.stray_names n j (still names refl (stray_ino rank, n) j e).1;
       heads = beside.heads.held;
       own_heads = beside.heads.own;
-      no_zero_heads = beside.heads.not_zero;
       opens = beside.opens ∙ m.opens;
       open_files = λ c j h. ap (is_kind File) (remove_other exact_nat s.records i j (eq_false exact_nat j i (open_gone c j h))) ∙ m.open_files c j h;
       few_entries = λ d. omega (arith, entries_cut rank t s primary m q i link p at d, m.few_entries d);

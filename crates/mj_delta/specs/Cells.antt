@@ -1,7 +1,6 @@
--- What the cells of a table keep where the rank wrote them, beside that no row of damage holds.
-use Rattle.std.specs.Prelude.{◌≡◌, ℕ, ◌<◌, ◌≤◌, ◌^◌, false, List, Some, IsSome, IsTrue, Contains, unwrap_or}
+-- What the cells of a table keep, beside that no row of damage holds.
+use Rattle.std.specs.Prelude.{◌≡◌, ℕ, ◌<◌, ◌^◌, false, List, Some, IsSome, IsTrue, Contains, unwrap_or}
 use Rattle.mj_base.specs.Name.{is_name}
-use Rattle.mj_base.specs.ObjectName.{first_ino}
 use Rattle.mj_base.specs.Record.{IsRecord, same_kind}
 use Rattle.mj_base.specs.declared.record.Kind.{Kind}
 use Rattle.mj_base.specs.declared.record.Kind.TheVariants.{Dir}
@@ -18,23 +17,25 @@ use Rattle.mj_cells.specs.Table.{Table}
 use Rattle.mj_cells.specs.Table.Dentry.{Full}
 use Rattle.mj_recovery.specs.Stored.{object_cells}
 use Rattle.mj_recovery.specs.Orderly.{IsOfRank, IsOwn}
-use Rattle.mj_delta.specs.Reads.{full_of, remote_of}
+use Rattle.mj_delta.specs.Reads.{remote_of}
 
 -- the next inode, 0 where there is none
 abbrev pub next_of : Table → ℕ
 next_of t = unwrap_or t.next 0
 
--- Inodes and directories are the rank's own, no head is 0, and each cell has a spelling.
-pub record HasOwnCells (rank : ℕ) (t : Table) : Type 0 where
+-- Each cell has a spelling: numbers, names and records are those of the grammar, and a remote dentry is of no directory.
+pub record HasSpelling (t : Table) : Type 0 where
   pub next_fits : next_of t < 2 ^ 64
-  pub above : (i : ℕ) (q : ℕ × List ℕ) → full_of (get t.dentries q) ≡ Some i → first_ino rank ≤ i
-  pub own_cells : (q : ℕ × List ℕ) → IsSome (get t.dentries q) → IsOwn rank (next_of t) q.0
-  pub own_heads : (d version : ℕ) → get t.heads d ≡ Some version → IsOwn rank (next_of t) d
-  pub no_zero_heads : (d version : ℕ) → get t.heads d ≡ Some version → 0 < version
   pub remote_no_dir : (q : ℕ × List ℕ) (i : ℕ) (k : Kind) → remote_of (get t.dentries q) ≡ Some (i, k) → same_kind k Dir ≡ false
   pub names_fit : (q : ℕ × List ℕ) → IsSome (get t.dentries q) → IsTrue (is_name q.1)
   pub records_fit : (q : ℕ × List ℕ) (version : ℕ) (r : InodeRecord) → get t.dentries q ≡ Some (Full version r) → IsRecord r
   pub tids_fit : (client tid i : ℕ) → get t.done (client, tid) ≡ Some i → tid < 2 ^ 64
+
+-- The same, and each directory with a cell is the rank's own.
+pub record HasOwnCells (rank : ℕ) (t : Table) : Type 0 where
+  pub spelled : HasSpelling t
+  pub own_cells : (q : ℕ × List ℕ) → IsSome (get t.dentries q) → IsOwn rank (next_of t) q.0
+  pub own_heads : (d version : ℕ) → get t.heads d ≡ Some version → IsOwn rank (next_of t) d
 
 -- ---- of an image
 

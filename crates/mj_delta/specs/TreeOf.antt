@@ -44,15 +44,14 @@ pub record HasDentries (rank : ℕ) (t : Table) (s : PlainState) (primary : Plac
   pub next : t.next ≡ Some s.next
   pub first_next : first_ino rank ≤ s.next
   pub next_fits : s.next < 2 ^ 64
-  pub above : (i : ℕ) (q : ℕ × List ℕ) → full_of (get t.dentries q) ≡ Some i → first_ino rank ≤ i
+  pub above : (i : ℕ) (q : ℕ × List ℕ) → get primary i ≡ Some q → first_ino rank ≤ i
   pub beneath : (i : ℕ) (q : ℕ × List ℕ) → get primary i ≡ Some q → i < s.next
   pub own_cells : (q : ℕ × List ℕ) → IsSome (get t.dentries q) → IsOwn rank s.next q.0
   -- a dentry of stray is named by its inode
   pub stray_names : (name : List ℕ) (i : ℕ) → names (get t.dentries (stray_ino rank, name)) ≡ Some i → name ≡ hex i
-  -- each directory and stray have a head, and no head is 0
+  -- each directory and stray have a head
   pub heads : (d : ℕ) → is_held rank s d ≡ true → IsSome (get t.heads d)
   pub own_heads : (d version : ℕ) → get t.heads d ≡ Some version → IsOwn rank s.next d
-  pub no_zero_heads : (d version : ℕ) → get t.heads d ≡ Some version → 0 < version
   -- opens are of files
   pub opens : t.opens ≡ s.opens
   pub open_files : (client i : ℕ) → IsSome (get s.opens (client, i)) → is_file s i ≡ true

@@ -15,7 +15,7 @@ ghost use Rattle.mj_recovery.specs.Orderly.{IsOwn, EachStored, IsOrderly};
 ghost use Rattle.mj_recovery.specs.Recovered.{Recovery, merged_table, recovered};
 ghost use Rattle.mj_recovery.specs.Formatted.{formatted_objects};
 ghost use Rattle.mj_delta.specs.TreeOf.{IsTreeOf};
-ghost use Rattle.mj_delta.specs.Cells.{HasOwnCells, IsSpelled, HoldsOwnDirs};
+ghost use Rattle.mj_delta.specs.Cells.{HasSpelling, HasOwnCells, IsSpelled, HoldsOwnDirs};
 ghost use Rattle.mj_delta.specs.Fresh.{fresh_table};
 
 /// A table has at most one tree.
@@ -38,6 +38,11 @@ pub fn tree_is_sound()
 /// A table without damage has a tree, where its cells are such as the rank would write.
 pub fn undamaged_has_tree()
     ensures { (rank : ℕ) (t : Table) (lumps : List ℕ) → tree_damage rank t lumps ≡ None → HasOwnCells rank t → IsTreeOf rank t (tree_of rank t) }
+{}
+
+/// A table without damage has a tree, where each directory with a cell counts as one of a lump, and each cell has a spelling.
+pub fn spelled_has_tree()
+    ensures { (rank : ℕ) (t : Table) → tree_damage rank t (cell_dirs t) ≡ None → HasSpelling t → IsTreeOf rank t (tree_of rank t) }
 {}
 
 /// An orderly image that recovers has the tree that it recovers to: its live events are in the grammar, what its objects store has a

@@ -1,5 +1,5 @@
 -- The dentries of a plan in order, and what a lump says of them.
-use Rattle.std.proofs.Common.{◌≡◌, ℕ, List, [], ◌∷◌, ◌++◌, map, Option, Some, None, refl, sym, ap, ◌∙◌, append-nil, append_assoc}
+use Rattle.std.proofs.Common.{◌≡◌, ℕ, List, [], ◌∷◌, ◌++◌, map, Option, Some, None, refl, ap, ◌∙◌, append-nil, append_assoc}
 use Rattle.std.specs.Prelude.{filter_map}
 use Rattle.std.specs.Option.{option_to_list}
 use Rattle.std.specs.List.{cons_option}
@@ -12,10 +12,10 @@ use Rattle.mj_meta.specs.declared.HeadBit.{HeadBit}
 use Rattle.mj_meta.specs.declared.DirLump.{DirLump}
 use Rattle.mj_recovery.proofs.Merges.{sorted_keys}
 use Rattle.mj_delta.specs.Events.{next_version}
-use Rattle.mj_delta.specs.Plan.{Naming, Planned, full_bit, remote_bit_of, null_bit, lump_of}
+use Rattle.mj_delta.specs.Plan.{Planned, full_bit, remote_bit_of, null_bit, lump_of}
 use Rattle.mj_delta.specs.Plan.Naming.{Full, Remote}
 use Rattle.mj_plan.specs.declared.dentry_plans.Naming.{Naming as Said}
-use Rattle.mj_plan.specs.Planning.{said, planned, dentry_said, full_bit_at, remote_bit_at, null_bit_at}
+use Rattle.mj_plan.specs.Planning.{planned, dentry_said, full_bit_at, remote_bit_at, null_bit_at}
 
 entries-collect : (m : Map place_cmp (Option Said)) → entries (collect dentry_said m) ≡ picked dentry_said (entries m)
 unfolding entries collect

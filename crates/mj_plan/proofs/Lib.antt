@@ -7,4 +7,3 @@ pub mod Heads
 pub mod Bits
 pub mod SentRequests
 pub mod Projecting
-pub mod NewCells

@@ -1,8 +1,6 @@
 -- What the plans of the code stand for, and what a lump says of a planned dentry.
 use Rattle.std.specs.Prelude.{ℕ, ◌==◌, List, [], ◌∷◌, Option, Some, None, option_map, if◌then◌else◌}
 use Rattle.std.specs.BTreeMap.{BTreeMap}
-use Rattle.mj_base.specs.declared.record.Kind.{Kind}
-use Rattle.mj_base.specs.declared.record.InodeRecord.{InodeRecord}
 use Rattle.mj_maps.specs.Map.{Map, insert, from_entries, collect}
 use Rattle.mj_maps.specs.Orders.{nat_cmp, place_cmp}
 use Rattle.mj_meta.specs.declared.HeadBit.{HeadBit}

@@ -19,7 +19,7 @@ use crate::plan_lumps::lumps_of;
 use crate::updates::{Changed, update_of};
 use mj_base::{ClientId, Ino, Items, Name};
 use mj_cache::Cache;
-use mj_decide::{is_open, kept_tids, link_count, next_ino};
+use mj_decide::{has_tree, is_open, kept_tids, link_count, next_ino};
 use mj_event::{Event, SessionEvent, SessionKind};
 use mj_judge::stray_ino;
 use mj_meta::DirLump;
@@ -309,10 +309,10 @@ pub fn event_of(
     r: &ClientRequest,
     decision: &Decision,
 ) -> Result<Option<Event>, AllocError>
-    requires tree { HasTree cache.now }
     requires decision { decision.now ≡ decided_on (early_tree cache.now) r.now }
     ensures { IfOk result (λ e. e ≡ event_for cache.now.rank (early_table cache.now) (early_tree cache.now) r.entry.now decision.now) }
 {
+    has_tree(cache);
     match decision {
         Decision::Answered(_) => Ok(None),
         Decision::SessionBegins => Ok(Some(open_event(alloc, r))),

@@ -3,7 +3,6 @@
 
 mod dentry_plans;
 mod events;
-mod fresh;
 mod fulls;
 mod laws;
 mod lumps;
@@ -13,8 +12,8 @@ mod sending;
 mod updates;
 
 pub use events::event_of;
-pub use fresh::new_cells;
 pub use laws::{a_new_rank_is_cached, a_plan_is_projected};
+pub use mj_fresh::new_cells;
 pub use planned::{Planned, plan};
 
 #[cfg(test)]

@@ -5,7 +5,7 @@ use Rattle.mj_judge.proofs.PartMaps.{next_is}
 use Rattle.mj_decide.proofs.reads.next_ino.Goals as goal
 
 pub returns-in-Some : goal.returns-in-Some
-returns-in-Some c = ap (λ (o : Option ℕ). unwrap_or o 0) (c.in-Some.ensures ∙ sym (next_is (early_cells c.args.cache.now)) ∙ c.requires.tree.dentries.next)
+returns-in-Some c = ap (λ (o : Option ℕ). unwrap_or o 0) (c.in-Some.ensures ∙ sym (next_is (early_cells c.args.cache.now)) ∙ c.has_tree.ensures.dentries.next)
 
 pub returns-in-None : goal.returns-in-None
-returns-in-None c = ap (λ (o : Option ℕ). unwrap_or o 0) (c.in-None.ensures ∙ sym (next_is (early_cells c.args.cache.now)) ∙ c.requires.tree.dentries.next)
+returns-in-None c = ap (λ (o : Option ℕ). unwrap_or o 0) (c.in-None.ensures ∙ sym (next_is (early_cells c.args.cache.now)) ∙ c.has_tree.ensures.dentries.next)

@@ -4,7 +4,7 @@ use Rattle.mj_judge.proofs.PartMaps.{get-sessions}
 use Rattle.mj_decide.proofs.reads.session_oldest.Goals as goal
 
 pub returns-in-Some : goal.returns-in-Some
-returns-in-Some c = c.in-Some.ensures ∙ sym (get-sessions (early_cells c.args.cache.now) c.args.client) ∙ c.requires.tree.sessions.sessions c.args.client
+returns-in-Some c = c.in-Some.ensures ∙ sym (get-sessions (early_cells c.args.cache.now) c.args.client) ∙ c.has_tree.ensures.sessions.sessions c.args.client
 
 pub returns : goal.returns
-returns c = c.in-None.ensures ∙ sym (get-sessions (early_cells c.args.cache.now) c.args.client) ∙ c.requires.tree.sessions.sessions c.args.client
+returns c = c.in-None.ensures ∙ sym (get-sessions (early_cells c.args.cache.now) c.args.client) ∙ c.has_tree.ensures.sessions.sessions c.args.client

@@ -1,12 +1,12 @@
-use Rattle.std.proofs.Common.{◌≡◌, ℕ, Option, Some, None, sym, ap, ◌∙◌}
+use Rattle.std.proofs.Common.{ℕ, Option, sym, ap, ◌∙◌}
 use Rattle.std.specs.Prelude.{map}
 use Rattle.mj_maps.specs.Map.{Map, entries, insert, from_entries}
 use Rattle.mj_maps.specs.Orders.{nat_cmp}
 use Rattle.mj_meta.specs.declared.HeadBit.{HeadBit}
 use Rattle.mj_meta.specs.declared.HeadBit.TheVariants.{Gone}
 use Rattle.mj_cache.specs.Cached.{early_table}
-use Rattle.mj_delta.specs.Plan.{touched, without_head, heads_of}
-use Rattle.mj_plan.specs.Planning.{dentries_in, plan_in}
+use Rattle.mj_delta.specs.Plan.{touched, without_head}
+use Rattle.mj_plan.specs.Planning.{dentries_in}
 use Rattle.mj_plan.proofs.Heads.{touched_all}
 use Rattle.mj_plan.proofs.Results.{if_ok}
 use Rattle.mj_plan.proofs.plan_lumps.heads_of.Goals as goal

@@ -1,6 +1,6 @@
 use Rattle.std.proofs.Common.{◌≡◌, ℕ, List, sym, ap, ◌∙◌, subst}
 use Rattle.std.specs.Prelude.{map, IfOk}
-use Rattle.mj_maps.specs.Map.{Map, entries}
+use Rattle.mj_maps.specs.Map.{entries}
 use Rattle.mj_maps.specs.Orders.{nat_cmp}
 use Rattle.mj_maps.proofs.MapLaws.{exact_nat, entries-from_entries}
 use Rattle.mj_meta.specs.declared.HeadBit.{HeadBit}

@@ -12,6 +12,7 @@ pub invariant_of-result : goal.invariant_of-result
 invariant_of-result c = record {
   undamaged = c.in-Ok.ensures.sound;
   index = c.in-Ok.ensures.index;
+  range = c.in-Ok.ensures.range;
   safe_fit = subst AllFit (sym c.in_ok-layers.ensures.safe) c.all_fit.ensures;
   writes_fit = subst (λ (gs : List Group). AllByRecursion WriteFits (all_writes gs)) (sym c.in_ok-layers.ensures.groups) tt;
 }

@@ -4,8 +4,8 @@ use Rattle.mj_tree.specs.State.{root}
 use Rattle.mj_cells.specs.declared.cell.CellKey.TheVariants.{DirHead, NextIno}
 use Rattle.mj_cells.specs.declared.cell.CellValue.TheVariants.{Number}
 use Rattle.mj_cells.specs.Table.{table_of}
-use Rattle.mj_plan.proofs.NewCells.{new_table}
-use Rattle.mj_plan.proofs.fresh.new_cells.Goals as goal
+use Rattle.mj_fresh.proofs.NewCells.{new_table}
+use Rattle.mj_fresh.proofs.cells.new_cells.Goals as goal
 
 pub returns : goal.returns
 returns c =
