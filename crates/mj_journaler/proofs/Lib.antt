@@ -4,3 +4,4 @@ mod Room
 pub mod Out
 pub mod Kept
 mod Newer
+pub mod Both

@@ -1,5 +1,5 @@
 -- What a journaler's calls answer and leave.
-use Rattle.std.specs.Prelude.{ℕ, ◌+◌, ◌-◌, ◌*◌, ◌/◌, ◌^◌, ◌==◌, ◌&&◌, ◌||◌, max, nat_le, nat_lt, Option, Some, None, option_map, List, [], ◌∷◌, ◌++◌, length, take, drop, if◌then◌else◌}
+use Rattle.std.specs.Prelude.{◌≡◌, ◌≤◌, ℕ, ◌+◌, ◌-◌, ◌*◌, ◌/◌, ◌^◌, ◌==◌, ◌&&◌, ◌||◌, max, nat_le, nat_lt, Option, Some, None, option_map, List, [], ◌∷◌, ◌++◌, length, take, drop, if◌then◌else◌}
 use Rattle.mj_base.specs.declared.object.ObjectName.{ObjectName}
 use Rattle.mj_base.specs.declared.object.ObjectName.TheVariants.{File}
 use Rattle.mj_base.specs.ObjectName.{journal_ino}
@@ -51,6 +51,15 @@ append_refusal j payload =
     else if nat_lt (2 ^ 62 - 1) (end_of j + entry_length payload) then Some (Spent (end_of j))
     else None
 
+-- The same of two entries, one behind the other. The first that would end above is told by where it would begin.
+abbrev pub append_both_refusal : Journal → List ℕ → List ℕ → Option AppendRefusal
+append_both_refusal j first second =
+    let between = end_of j + entry_length first in
+    if nat_lt 8388608 (unsafe_of j + entry_length first + entry_length second) then Some (Full (unsafe_of j))
+    else if nat_lt (2 ^ 62 - 1) between then Some (Spent (end_of j))
+    else if nat_lt (2 ^ 62 - 1) (between + entry_length second) then Some (Spent between)
+    else None
+
 abbrev pub appended : List ℕ → Journal → Journal
 appended payload j = record j {
   buffer = j.buffer ++ entry_bytes (end_of j) payload;
@@ -60,6 +69,13 @@ appended payload j = record j {
 
 abbrev pub reserved : ℕ → Journal → Journal
 reserved bytes j = record j { room = max j.room bytes }
+
+-- Each of two entries is appended, one behind the other, and what is reserved for both is room for each.
+pub record TakesBoth (p q : List ℕ) (j : Journal) : Type 0 where
+  pub first : append_refusal j p ≡ None
+  pub second : append_refusal (appended p j) q ≡ None
+  pub first_room : entry_length p ≤ (reserved (entry_length p + entry_length q) j).room
+  pub second_room : entry_length q ≤ (appended p (reserved (entry_length p + entry_length q) j)).room
 
 -- ---- writes of the stream
 

@@ -11,7 +11,7 @@ ghost use Rattle.mj_store.specs.Causes.{In};
 ghost use Rattle.mj_store.specs.declared.act.ObjectAct.TheVariants.{Write};
 ghost use Rattle.mj_journaler.specs.Outstanding.{last_end, ends_above};
 ghost use Rattle.mj_journaler.specs.Journal.{Journal, layout_of, end_of, unsafe_of, window_of, flush_end, first_set, trimmed_of, IsNew};
-ghost use Rattle.mj_journaler.specs.Calls.{begun, journal_object, append_refusal, appended, reserved, flush_of, head_of, header_now, removal_of, offer_op, offered, taken, sent_on, acked_to, expire_of, acknowledged, earlier, write_out, head_out, removal_out, oldest_sent};
+ghost use Rattle.mj_journaler.specs.Calls.{begun, journal_object, append_refusal, append_both_refusal, TakesBoth, appended, reserved, flush_of, head_of, header_now, removal_of, offer_op, offered, taken, sent_on, acked_to, expire_of, acknowledged, earlier, write_out, head_out, removal_out, oldest_sent};
 ghost use Rattle.mj_journaler.specs.Keeps.{MaySend, IsLast, IsDone, Truncates, IsBelowTail};
 ghost use Rattle.mj_journaler.specs.Ring.{spare};
 ghost use Rattle.mj_journaler.specs.declared.AppendRefusal.TheVariants.{Memory};
@@ -200,6 +200,28 @@ impl Journaler {
         }
         if LAST_END < self.end + len {
             return Some(AppendRefusal::Spent(self.end));
+        }
+        None
+    }
+
+    /// Why the entries of two payloads, one behind the other, are refused together, but for want of memory.
+    pub fn refusal_of_both(&self, first: &[u8], second: &[u8]) -> Option<AppendRefusal>
+        requires first { IsPayload first.now }
+        requires second { IsPayload second.now }
+        ensures is { result ≡ append_both_refusal self.now first.now second.now }
+        ensures each { result ≡ None → TakesBoth first.now second.now self.now }
+    {
+        let first_len = (first.len() + ENVELOPE) as u64;
+        let second_len = (second.len() + ENVELOPE) as u64;
+        if MOST_UNSAFE < self.end - self.safe + first_len + second_len {
+            return Some(AppendRefusal::Full(self.end - self.safe));
+        }
+        let between = self.end + first_len;
+        if LAST_END < between {
+            return Some(AppendRefusal::Spent(self.end));
+        }
+        if LAST_END < between + second_len {
+            return Some(AppendRefusal::Spent(between));
         }
         None
     }

@@ -4,3 +4,7 @@ pub mod Streams
 pub mod Joined
 pub mod Lives
 pub mod Headers
+pub mod Known
+pub mod Formatted
+pub mod FreshCells
+pub mod Rebuilt

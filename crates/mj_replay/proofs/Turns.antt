@@ -12,7 +12,8 @@ use Rattle.mj_event.specs.EventReading.{event_of}
 use Rattle.mj_recovery.specs.declared.journal.Entries.{Entries}
 use Rattle.mj_recovery.specs.declared.journal.LiveEvent.{LiveEvent}
 use Rattle.mj_recovery.specs.Journal.{event_in, next_entry, entries_in, before, nothing_at}
-use Rattle.mj_replay.specs.Pieces.{entries_from, behind, MayFollow}
+use Rattle.mj_event.specs.Event.{IsEvent}
+use Rattle.mj_replay.specs.Pieces.{entries_from, behind, MayFollow, InGrammar}
 use Rattle.mj_replay.specs.Replays.{Fails}
 use Rattle.mj_replay.specs.declared.refusal.JournalRefusal.{JournalRefusal}
 use Rattle.mj_replay.specs.declared.refusal.JournalRefusal.TheVariants as refusal
@@ -131,3 +132,10 @@ pub piece_wrong : (why : JournalRefusal) (keep : ℕ) (es : List LiveEvent) (res
 piece_wrong (refusal.Damage d) keep es rest more at write all e h f is = e ∙ wrong_step es (rest ++ more) at write d (next_same keep rest more at write h f ∙ is)
 piece_wrong (refusal.Store fault) keep es rest more at write all e h f is = tt
 piece_wrong refusal.Memory keep es rest more at write all e h f is = tt
+
+-- ---- the grammar
+
+-- one event more in the grammar
+pub grammar_more : (es : List LiveEvent) (e : LiveEvent) → InGrammar es → IsEvent e.event → InGrammar (es ++ e ∷ [])
+grammar_more [] e all is = (is, tt)
+grammar_more (x ∷ es) e all is = (all.0, grammar_more es e all.1 is)

@@ -1,3 +1,5 @@
 pub mod Fronts
 pub mod Pieces
 pub mod Replays
+pub mod Replayed
+pub mod Lumps

@@ -1,6 +1,8 @@
 -- Entries of a stream that is read piece by piece.
 use Rattle.std.specs.Prelude.{◌≡◌, ◌⊎◌, ℕ, ◌+◌, ◌-◌, ◌<◌, ◌≤◌, List, [], ◌++◌, length, drop, Result, Ok, Err}
+use Rattle.std.specs.List.{AllByRecursion}
 use Rattle.mj_base.specs.declared.damage.Damage.{Damage}
+use Rattle.mj_event.specs.Event.{IsEvent}
 use Rattle.mj_recovery.specs.Journal.{entries_in}
 use Rattle.mj_recovery.specs.declared.journal.Entries.{Entries}
 use Rattle.mj_recovery.specs.declared.journal.LiveEvent.{LiveEvent}
@@ -8,6 +10,10 @@ use Rattle.mj_replay.specs.Replays.{Fails}
 use Rattle.mj_replay.specs.declared.piece.Piece.{Piece}
 use Rattle.mj_replay.specs.declared.piece.Piece.TheVariants.{More, Tail}
 use Rattle.mj_replay.specs.declared.refusal.JournalRefusal.{JournalRefusal}
+
+-- each event is in the grammar
+abbrev pub InGrammar : List LiveEvent → Type 0
+InGrammar es = AllByRecursion (λ (e : LiveEvent). IsEvent e.event) es
 
 -- the entries of a whole stream from a position on
 abbrev pub entries_from : List ℕ → ℕ → ℕ → Result Entries Damage

@@ -6,7 +6,7 @@ ghost use Rattle.mj_store.specs.Moves.{Still};
 ghost use Rattle.mj_probe.specs.Looks.{Looks};
 ghost use Rattle.mj_recovery.specs.Journal.{is_beginning, beginning, live_entries};
 ghost use Rattle.mj_recovery.specs.Stream.{stream, stream_of, probed_end};
-ghost use Rattle.mj_replay.specs.Pieces.{entries_from};
+ghost use Rattle.mj_replay.specs.Pieces.{entries_from, InGrammar};
 ghost use Rattle.mj_replay.specs.Replays.{Gives, RefusesJournal, IsNoDamage};
 
 use crate::piece::{Piece, read_piece, refused};
@@ -74,6 +74,7 @@ fn read_entries<S: ObjectStore>(
     requires reached { write ≤ end }
     ensures told { (s : StoreState) → S.state store.old ≡ Some s → Still s → end ≡ probed_end (contents s) rank layout.now from → Gives result (entries_from (stream (contents s) rank layout.now from) from write) }
     ensures within { IfOk result (λ found. (write ≤ found.tail) × (found.tail ≤ end)) }
+    ensures grammar { IfOk result (λ found. InGrammar found.events) }
     ensures looks { Looks (S.state store.old) (S.state store.new) (S.unreported store.old) (S.unreported store.new) (S.faults store.old) (S.faults store.new) }
     ensures cause { IfErr result (RefusesJournal (S.faults store.old) (S.faults store.new)) }
 {
@@ -139,6 +140,7 @@ pub fn read_live<S: ObjectStore>(
     requires { header.now.expire < 2 ^ 62 }
     ensures told { (s : StoreState) → S.state store.old ≡ Some s → Still s → Gives result (live_entries (stream (contents s) rank header.now.layout header.now.expire) header.now.expire header.now.write) }
     ensures within { IfOk result (λ found. (header.now.write ≤ found.tail) × (found.tail ≤ 2 ^ 62)) }
+    ensures grammar { IfOk result (λ found. InGrammar found.events) }
     ensures looks { Looks (S.state store.old) (S.state store.new) (S.unreported store.old) (S.unreported store.new) (S.faults store.old) (S.faults store.new) }
     ensures cause { IfErr result (RefusesJournal (S.faults store.old) (S.faults store.new)) }
 {

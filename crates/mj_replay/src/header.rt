@@ -5,7 +5,7 @@ ghost use Rattle.mj_store.specs.State.{StoreState, contents};
 ghost use Rattle.mj_store.specs.Moves.{Still};
 ghost use Rattle.mj_probe.specs.Looks.{Looks};
 ghost use Rattle.mj_recovery.specs.Journal.{live_header, of_format};
-ghost use Rattle.mj_layout.specs.Header.{header_of};
+ghost use Rattle.mj_layout.specs.Header.{header_of, IsHeader};
 ghost use Rattle.mj_replay.specs.Replays.{Gives, RefusesJournal};
 ghost use Rattle.mj_replay.specs.Fronts.{IsFrontOf};
 
@@ -23,6 +23,7 @@ const HEADER_BYTES: u32 = 70;
 fn judged(bytes: &[u8], size: u64) -> Result<Header, JournalRefusal>
     ensures told { (all : List ℕ) → IsFrontOf all bytes.now size → Gives result (of_format (header_of all)) }
     ensures cause { (before now : ℕ) → IfErr result (RefusesJournal before now) }
+    ensures header { IfOk result IsHeader }
     ensures write { IfOk result (λ h. (h.expire ≤ h.write) × (h.write < 2 ^ 62)) }
 {
     match Header::read(bytes) {
@@ -43,6 +44,7 @@ pub fn read_header<S: ObjectStore>(
     rank: RankNo,
 ) -> Result<Header, JournalRefusal>
     ensures told { (s : StoreState) → S.state store.old ≡ Some s → Still s → Gives result (live_header (contents s) rank) }
+    ensures header { IfOk result IsHeader }
     ensures write { IfOk result (λ h. (h.expire ≤ h.write) × (h.write < 2 ^ 62)) }
     ensures looks { Looks (S.state store.old) (S.state store.new) (S.unreported store.old) (S.unreported store.new) (S.faults store.old) (S.faults store.new) }
     ensures cause { IfErr result (RefusesJournal (S.faults store.old) (S.faults store.new)) }

@@ -1,14 +1,23 @@
-//! The live journal of a store: the header, the events from its expire on, and the tail.
+//! The live journal of a store, and what it comes to: the header, the events from its expire on, the tail, and the cells that
+//! they leave.
 #![tactic(auto)]
 
 mod entries;
 mod header;
+mod journal;
+mod laws;
+mod lumps;
+mod overlaid;
 mod piece;
 mod refusal;
-mod replay;
+mod replaying;
 
+pub use journal::read_journal;
+pub use laws::a_history_is_replayed;
 pub use refusal::JournalRefusal;
-pub use replay::read_journal;
+pub use replaying::{Replayed, replay};
 
 #[cfg(test)]
-mod tests;
+mod journal_tests;
+#[cfg(test)]
+mod replay_tests;

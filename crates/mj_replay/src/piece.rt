@@ -1,9 +1,10 @@
 //! The entries of a piece of the stream.
 
-ghost use Rattle.std.specs.Prelude.{◌≡◌, ◌+◌, ◌≤◌, ◌<◌, ◌^◌, ℕ, length, drop, IfOk, IfErr, IfSome, IfNone};
+ghost use Rattle.std.specs.Prelude.{◌≡◌, ◌+◌, ◌≤◌, ◌<◌, ◌^◌, ℕ, length, drop, IfOk, IfErr, OnOk, IfSome, IfNone};
 ghost use Rattle.mj_entry.specs.Entry.{entry_at};
 ghost use Rattle.mj_recovery.specs.Journal.{next_entry};
-ghost use Rattle.mj_replay.specs.Pieces.{Reads, Refuses, EndsIn};
+ghost use Rattle.mj_event.specs.Event.{IsEvent};
+ghost use Rattle.mj_replay.specs.Pieces.{Reads, Refuses, EndsIn, InGrammar};
 ghost use Rattle.mj_replay.specs.Replays.{Gives, RefusesJournal};
 ghost use Rattle.mj_replay.specs.declared.refusal.JournalRefusal.TheVariants as refusal;
 
@@ -42,6 +43,7 @@ fn read_next(
     ensures cause { (before now : ℕ) → IfErr result (RefusesJournal before now) }
     ensures within { IfOk result (λ o. IfSome o (λ x. (at < x.1) × (x.1 ≤ at + length bytes.now))) }
     ensures written { IfOk result (λ o. IfNone o (write ≤ at)) }
+    ensures grammar { IfOk result (λ o. IfSome o (λ x. IsEvent x.0.event)) }
 {
     match entry_read(bytes, at) {
         EntryRead::Whole { payload, ends } => match event_read(alloc, payload) {
@@ -75,10 +77,12 @@ pub fn read_piece(
     events: &mut Vec<LiveEvent>,
 ) -> Result<Piece, JournalRefusal>
     requires below { at + length bytes.now ≤ 2 ^ 62 }
+    requires grammar { InGrammar events.old.items }
     ensures told { IfOk result (Reads keep bytes.now at write events.old.items events.new.items) }
     ensures refused { IfErr result (Refuses keep bytes.now at write events.old.items) }
     ensures cause { (before now : ℕ) → IfErr result (RefusesJournal before now) }
     ensures ends { IfOk result (EndsIn keep bytes.now at write) }
+    ensures grammar { OnOk result (InGrammar events.new.items) }
 {
     let mut rest = bytes;
     let mut here = at;

@@ -80,6 +80,7 @@ pieces-preserved g c =
       looks = looks_then l.invariant.looks c.in-Ok.ensures.looks;
       above = omega (arith, l.invariant.above, ended.0);
       at_most = omega (arith, next_to, to_end);
+      grammar = c.in-Ok-read_piece.ensures.grammar;
       found = λ s is still ends.
           let now = still_after s (told c.args.store.now) (told c.pieces.store) is still c.pieces.invariant.looks.stays in
           let e = c.deref.ensures.value ∙ c.in-Ok.ensures.told s now still in

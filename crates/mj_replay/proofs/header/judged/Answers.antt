@@ -1,6 +1,7 @@
 use Rattle.std.proofs.Common.{◌≡◌, ◌≢◌, Err, sym, ap, subst, ◌∙◌, arith}
 use Rattle.mj_layout.specs.Header.{header_of}
 use Rattle.mj_layout.specs.declared.HeaderRefusal.TheVariants.{HeaderBad, HeaderOrder}
+use Rattle.mj_layout.proofs.HeaderLaw.{header_takes, is_header}
 use Rattle.mj_recovery.specs.Journal.{of_format}
 use Rattle.mj_replay.specs.Replays.{Fails}
 use Rattle.mj_replay.specs.declared.refusal.JournalRefusal.{JournalRefusal}
@@ -39,3 +40,9 @@ returns-in-Err-HeaderOrder-clause-told c = λ all f.
     let found : header_of c.args.bytes.now ≡ Err HeaderOrder = sym c.in-Err-HeaderOrder.ensures ∙ ap Err c.in-Err-HeaderOrder.field-0-is in
     subst (λ (w : JournalRefusal). Fails w (of_format (header_of all))) (sym c.refused-in-Err-HeaderOrder.ensures)
     (ap of_format (order_by_front all c.args.bytes.now c.args.size f found))
+
+pub returns-in-Ok-2-clause-header : goal.returns-in-Ok-2-clause-header
+returns-in-Ok-2-clause-header c =
+    let h = c.in-Ok.header in
+    let t = header_takes c.args.bytes.now h (λ i. let byte = c.type_inv.bytes i in omega (arith, byte)) (sym c.in-Ok.ensures) in
+    is_header h t.1 t.2

@@ -1,8 +1,10 @@
-use Rattle.std.proofs.Common.{◌≡◌, ◌+◌, ◌-◌, List, ◌++◌, ℕ, length, length-drop, drop, Ok, ap, sym, ◌∙◌, arith}
+use Rattle.std.proofs.Common.{◌≡◌, ◌+◌, ◌-◌, List, ◌++◌, ℕ, length, length-drop, drop, Option, Ok, ap, sym, subst, ◌∙◌, arith}
 use Rattle.std.proofs.lemmas.List.{drop-drop}
 use Rattle.mj_recovery.specs.declared.journal.LiveEvent.{LiveEvent}
-use Rattle.mj_replay.specs.Pieces.{behind, entries_from}
-use Rattle.mj_replay.proofs.Turns.{next_within, piece_step, piece_tail, piece_wrong}
+use Rattle.std.specs.Prelude.{IfSome}
+use Rattle.mj_event.specs.Event.{IsEvent}
+use Rattle.mj_replay.specs.Pieces.{behind, entries_from, InGrammar}
+use Rattle.mj_replay.proofs.Turns.{grammar_more, next_within, piece_step, piece_tail, piece_wrong}
 use Rattle.mj_replay.proofs.piece.read_piece.Goals as goal
 
 pub returns-in-Err-clause-refused : goal.returns-in-Err-clause-refused
@@ -31,5 +33,6 @@ entries-preserved c =
           ∙ ap (λ (bs : List ℕ). behind c.push.new.self.items (entries_from (bs ++ more) ends c.args.write)) (sym c.behind-rest.ensures)));
       above = omega (arith, l.invariant.above, w.0);
       ends = omega (arith, ap length c.behind-rest.ensures, length-drop (c.in-Some.ends - c.entries.here) c.entries.rest.now, w.0, w.1, l.invariant.ends);
+      grammar = subst InGrammar (sym c.in_ok-push-in-Some.ensures.items) (grammar_more l.events.items event l.invariant.grammar (subst (λ (o : Option (LiveEvent × ℕ)). IfSome o (λ (x : LiveEvent × ℕ). IsEvent x.0.event)) c.in-Some.is c.in-Ok.ensures.grammar));
       left = c.behind-rest.ensures ∙ (ap (drop (ends - l.here)) l.invariant.left ∙ (drop-drop (ends - l.here) (l.here - c.args.at) c.args.bytes.now ∙ ap (λ k. drop k c.args.bytes.now) more_ends));
     }

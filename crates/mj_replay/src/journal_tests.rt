@@ -1,6 +1,6 @@
 //! Journals on a store in memory: what is read of a worked one, and the damage of changed ones.
 
-use super::read_journal;
+use crate::read_journal;
 use mj_base::{Items, RankNo};
 use mj_memstore::MemStore;
 use mj_store::{ObjectAct, ObjectName, ObjectOp, ObjectStore};

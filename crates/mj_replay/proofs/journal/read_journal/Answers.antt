@@ -4,7 +4,7 @@ use Rattle.mj_recovery.specs.Stream.{stream}
 use Rattle.mj_recovery.proofs.Steps.{journal_ok}
 use Rattle.mj_probe.proofs.Looking.{still_after, looks_then}
 use Rattle.mj_replay.proofs.Lives.{journal_fails}
-use Rattle.mj_replay.proofs.replay.read_journal.Goals as goal
+use Rattle.mj_replay.proofs.journal.read_journal.Goals as goal
 
 pub returns-in-Err-read_live-clause-stays : goal.returns-in-Err-read_live-clause-stays
 returns-in-Err-read_live-clause-stays g c = (looks_then c.in-Ok.ensures.looks c.in-Err-read_live.ensures.looks).stays

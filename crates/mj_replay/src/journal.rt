@@ -4,6 +4,8 @@ ghost use Rattle.std.specs.Prelude.{◌≡◌, ◌^◌, ◌≤◌, ℕ, Some, Ok
 ghost use Rattle.mj_store.specs.State.{StoreState, contents};
 ghost use Rattle.mj_store.specs.Moves.{Stays, Still};
 ghost use Rattle.mj_recovery.specs.Journal.{live_journal};
+ghost use Rattle.mj_layout.specs.Header.{IsHeader};
+ghost use Rattle.mj_replay.specs.Pieces.{InGrammar};
 ghost use Rattle.mj_replay.specs.Replays.{Gives, RefusesJournal};
 
 use crate::entries::read_live;
@@ -25,6 +27,8 @@ pub fn read_journal<S: ObjectStore>(
     ensures stays { Stays (S.state store.old) (S.state store.new) }
 
     // over every store
+    ensures header { IfOk result (λ journal. IsHeader journal.header) }
+    ensures grammar { IfOk result (λ journal. InGrammar journal.events) }
     ensures within { IfOk result (λ journal. (journal.header.expire ≤ journal.header.write) × (journal.header.write ≤ journal.tail) × (journal.tail ≤ 2 ^ 62)) }
     ensures same_list { S.unreported store.new ≡ S.unreported store.old }
     ensures cause { IfErr result (RefusesJournal (S.faults store.old) (S.faults store.new)) }

@@ -1,0 +1,4 @@
+pub mod Weight
+pub mod Ends
+pub mod Room
+pub mod Inside
