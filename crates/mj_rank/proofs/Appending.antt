@@ -1,16 +1,11 @@
 -- What a journaler is after an entry was appended within the room that was made.
-use Rattle.std.proofs.Common.{◌≡◌, ℕ, ◌+◌, List, Option, Some, None, Result, Ok, Err, refl, ap, ◌∙◌}
+use Rattle.std.proofs.Common.{◌≡◌, ℕ, List, Option, Some, None, Result, Ok, Err, refl, ap, ◌∙◌}
 use Rattle.std.specs.Prelude.{IfSome, MatchResult}
-use Rattle.mj_entry.specs.Entry.{entry_length}
 use Rattle.mj_journaler.specs.Journal.{Journal, end_of}
 use Rattle.mj_journaler.specs.Calls.{append_refusal, appended, reserved}
 use Rattle.mj_journaler.specs.declared.AppendRefusal.{AppendRefusal}
 use Rattle.mj_journaler.specs.declared.AppendRefusal.TheVariants.{Memory}
-use Rattle.mj_journaler.proofs.Kept.{end_more}
 use Rattle.mj_rank.specs.Log.{log_value, with_entry}
-
-same_ok : (a b : ℕ) (x : Result ℕ AppendRefusal) → x ≡ Ok a → x ≡ Ok b → a ≡ b
-same_ok a b x e f = cc
 
 by_refusal : (o : Option AppendRefusal) (result : Result ℕ AppendRefusal) (end : ℕ) (old new : Journal) (payload : List ℕ) → result ≡ Ok end → IfSome o (λ why. result ≡ Err why)
     → (o ≡ None → MatchResult result (λ e. (e ≡ end_of new) × (new ≡ appended payload old)) (λ why. why ≡ Memory)) → new ≡ appended payload old
@@ -26,19 +21,3 @@ appended_ok result end old new payload is refused taken = by_refusal (append_ref
 pub appended_value : (old made new : Journal) (room : ℕ) (payload bytes : List ℕ) → made ≡ reserved room old → new ≡ appended payload made → payload ≡ bytes → log_value new ≡ with_entry (log_value old) bytes
 appended_value old made new room payload bytes a b p =
     ap log_value b ∙ (ap (λ (j : Journal). log_value (appended payload j)) a ∙ ap (λ (bs : List ℕ). with_entry (log_value old) bs) p)
-
--- ---- where it ends
-
-end_by_refusal : (o : Option AppendRefusal) (result : Result ℕ AppendRefusal) (end : ℕ) (old new : Journal) (payload : List ℕ) → result ≡ Ok end → IfSome o (λ why. result ≡ Err why)
-    → (o ≡ None → MatchResult result (λ e. (e ≡ end_of new) × (new ≡ appended payload old)) (λ why. why ≡ Memory)) → end ≡ end_of new
-end_by_refusal None (Ok e) end old new payload is refused taken = same_ok end e (Ok e) is refl ∙ (taken refl).0
-end_by_refusal None (Err why) end old new payload is refused taken = absurd cc
-end_by_refusal (Some why) (Ok e) end old new payload is refused taken = absurd cc
-end_by_refusal (Some why) (Err x) end old new payload is refused taken = absurd cc
-
-pub appended_end : (result : Result ℕ AppendRefusal) (end : ℕ) (old made new : Journal) (room : ℕ) (payload bytes : List ℕ) → result ≡ Ok end → IfSome (append_refusal made payload) (λ why. result ≡ Err why)
-    → (append_refusal made payload ≡ None → MatchResult result (λ e. (e ≡ end_of new) × (new ≡ appended payload made)) (λ why. why ≡ Memory))
-    → made ≡ reserved room old → payload ≡ bytes → end ≡ end_of old + entry_length bytes
-appended_end result end old made new room payload bytes is refused taken a p =
-    end_by_refusal (append_refusal made payload) result end made new payload is refused taken
-    ∙ (ap end_of (appended_ok result end made new payload is refused taken) ∙ (end_more made payload ∙ (λ i. end_of (a i) + entry_length (p i))))

@@ -1,33 +1,28 @@
 -- A mount begins on what rests: the machine is stopped at the tail that it found.
-use Rattle.std.proofs.Common.{◌≡◌, inl, inr, ℕ, ◌-◌, ◌/◌, ◌^◌, ◌<◌, ◌≤◌, true, List, [], ◌++◌, length, take, Option, Some, None, Ok, refl, sym, ap, subst, ◌∙◌, arith}
-use Rattle.std.specs.Prelude.{IsSome, nat_lt, nat_le, unwrap_or}
-use Rattle.std.proofs.lemmas.Bool.{and_from, le-leb, lt-ltb}
+use Rattle.std.proofs.Common.{◌≡◌, inl, inr, ℕ, ◌+◌, ◌-◌, ◌/◌, ◌^◌, ◌<◌, ◌≤◌, Bool, true, false, List, [], ◌++◌, length, take, None, Result, Ok, Err, refl, sym, ap, subst, ◌∙◌, arith}
+use Rattle.std.specs.Prelude.{nat_lt, nat_le, if◌then◌else◌}
+use Rattle.std.proofs.lemmas.Bool.{and_from, eqb-true, le-leb, lt-ltb, ltb-true}
 use Rattle.std.proofs.lemmas.Nat.{le-div, mul-le}
 use Rattle.std.proofs.Math.Nat.{div-mul-le_self}
 use Rattle.std.proofs.lemmas.List.{append-nil, take-append-drop, length-take-le}
-use Rattle.mj_maps.specs.Map.{get}
-use Rattle.mj_tree.specs.State.{root, new_state}
+use Rattle.mj_base.specs.Reading.{◌>>=◌}
+use Rattle.mj_base.specs.declared.damage.Damage.{Damage}
+use Rattle.mj_base.specs.declared.damage.Damage.TheVariants.{Unbuilt}
+use Rattle.mj_tree.specs.State.{new_state}
 use Rattle.mj_tree.specs.Answer.{after_all}
-use Rattle.mj_tree.specs.Meaning.{state_of}
 use Rattle.mj_store.specs.State.{StoreState, Quiet, contents}
 use Rattle.mj_layout.specs.Striping.{period}
 use Rattle.mj_layout.specs.Header.{IsHeader}
 use Rattle.mj_layout.specs.declared.Header.{Header}
 use Rattle.mj_layout.proofs.Striped.{sizes}
-use Rattle.mj_entry.specs.Entry.{entry_length}
-use Rattle.mj_event.specs.Event.{event_bytes}
-use Rattle.mj_cells.specs.Table.{Table, overlay}
+use Rattle.mj_cells.specs.Table.{overlay}
 use Rattle.mj_recovery.specs.declared.journal.LiveJournal.{LiveJournal}
-use Rattle.mj_recovery.specs.Journal.{live_journal}
-use Rattle.mj_recovery.specs.Objects.{Objects, objects_of}
-use Rattle.mj_recovery.specs.Recovered.{Recovery, merged_table, recovered}
-use Rattle.mj_machine.specs.Machine.{LogMachine, early_state, made_safe, stopped}
+use Rattle.mj_recovery.specs.Recovered.{Recovery}
+use Rattle.mj_machine.specs.Machine.{LogMachine, made_safe, stopped}
 use Rattle.mj_delta.specs.Histories.{Turn, events, requests, all_writes, Carries}
 use Rattle.mj_delta.specs.Fresh.{fresh_table}
 use Rattle.mj_delta.specs.Recovering.{live_events}
-use Rattle.mj_delta.specs.TreeOf.{IsTreeOf}
-use Rattle.mj_delta.proofs.Fresh.{fresh_tree}
-use Rattle.mj_delta.proofs.Fronts.{carries_front, whole_tree}
+use Rattle.mj_delta.proofs.Fronts.{carries_front}
 use Rattle.mj_facts.specs.Journalled.{Journalled, IsJournalled, place_of, taken}
 use Rattle.mj_facts.specs.Headers.{IsBounded}
 use Rattle.mj_facts.specs.Ranks as facts
@@ -39,23 +34,21 @@ use Rattle.mj_facts.proofs.Entries.{place_above, place_back}
 use Rattle.mj_facts.proofs.Laws.{ordered, stop_begins}
 use Rattle.mj_facts.proofs.Quiet.{mounts_quiet}
 use Rattle.mj_facts.proofs.Computed.{bounded_again}
+use Rattle.mj_facts.proofs.Recovers.{rests_read}
 use Rattle.mj_facts.proofs.WhileMounting.{place_taken, rests_taken, taken_header}
+use Rattle.mj_replay.specs.Replayed.{is_served, replayed_of, replayed_in}
+use Rattle.mj_replay.proofs.Rebuilt.{history_replayed, not_served}
 use Rattle.mj_rank.specs.declared.found.Found.{Found}
 use Rattle.mj_rank.specs.declared.mounting.Stage.TheVariants.{Announcing}
-use Rattle.mj_rank.specs.FirstPath.{first_objects, first_path_in, journal_limit, IsFound}
+use Rattle.mj_rank.specs.Finding.{IsFound, IsFoundIn, below_end, found_in}
 use Rattle.mj_rank.specs.Cutting.{near_from, near_end}
-use Rattle.mj_rank.specs.Log.{entry_end}
-use Rattle.mj_rank.specs.Mount.{empty_log, first_log, next_header, subtree_map}
+use Rattle.mj_rank.specs.Mount.{first_log, first_segment, next_header}
 use Rattle.mj_rank.specs.Mounts.{MountValue}
 use Rattle.mj_rank.specs.History.{IsHistory}
 use Rattle.mj_rank.specs.Live.{Rested, Mounted, IsNewStore}
 use Rattle.mj_rank.proofs.Crashes.{live_from, take_over}
 use Rattle.mj_rank.proofs.Members.{events_take}
-use Rattle.mj_rank.proofs.Turns.{early_is, history_safe, more_end}
-use Rattle.mj_rank.proofs.FirstHistory.{fresh_recovers, fresh_merged}
-use Rattle.mj_rank.proofs.FirstObjects.{first_fresh}
-use Rattle.mj_rank.proofs.FirstMount.{FoundFirst, header_in, journal_in, of_first, header_found, journal_found, tail_found}
-use Rattle.mj_rank.proofs.Inverted.{ok_is, recovered_journal}
+use Rattle.mj_rank.proofs.Turns.{history_safe, more_end}
 
 -- a mount that has found this and has sent nothing, whatever number stands for its last header
 abbrev pub begun_value : ℕ → Found → ℕ → MountValue
@@ -64,9 +57,9 @@ begun_value rank found sent = record {
   header = next_header found.header found.tail;
   found = found.header;
   tail = found.tail;
-  tree = state_of found.tree;
-  root_version = found.root_version;
+  cache = found.cache;
   log = first_log found.header rank found.tail;
+  segment = first_segment found.header rank found.tail;
   stage = Announcing;
   sent = sent;
   next = near_from found.header.layout found.tail;
@@ -104,9 +97,6 @@ module _ (rank : ℕ) (j : Journalled) (older newer : List Turn) (m : LogMachine
         on_the_way = refl;
       }
 
-  pub state_stopped : early_state (stopped m p) ≡ after_all (new_state rank) (requests front)
-  state_stopped = early_is rank (taken count j) front [] (stopped m p) history_stopped ∙ ap (λ (xs : List Turn). after_all (new_state rank) (requests xs)) (append-nil front)
-
 -- ---- the header that is sent next
 
 pub next_sound : (h : Header) (tail : ℕ) → IsHeader h → h.expire ≤ tail → tail < 2 ^ 62 → IsHeader (next_header h tail)
@@ -135,13 +125,14 @@ resting : (rank : ℕ) (m : LogMachine) (s : StoreState) (k : Rested rank m s) �
 resting rank m s k = subst (Resting rank m s) (λ z. record k.journal { rank = k.history.number z })
     (record { journalled = k.journalled; older = k.older; newer = k.newer; history = k.history; count = k.count; enough = k.enough; rests = k.rests; whole = k.whole })
 
-some_of : (o : Option ℕ) → IsSome o → o ≡ Some (unwrap_or o 0)
-some_of None h = absurd cc
-some_of (Some n) h = refl
-
 -- ---- a mount begins
 
-module _ (rank : ℕ) (m : LogMachine) (s : StoreState) (quiet : Quiet s) (new : IsNewStore rank s) (j0 : Journalled) (t : Resting rank m s (record j0 { rank = rank })) (found : Found) (is : IsFound found (first_path_in rank s)) where
+-- what was found ends below the last position
+found_below : (found : Found) (r : Recovery) (b : Bool) → IsFound found (if b then Ok r else Err Unbuilt) → (b ≡ true) × IsFoundIn found r
+found_below found r true is = (refl, is)
+found_below found r false is = absurd is
+
+module _ (rank : ℕ) (m : LogMachine) (s : StoreState) (quiet : Quiet s) (new : IsNewStore rank s) (j0 : Journalled) (t : Resting rank m s (record j0 { rank = rank })) (found : Found) (is : IsFound found (found_in rank (contents s))) where
   small : rank ≤ 15
   small = t.history.small
 
@@ -151,58 +142,62 @@ module _ (rank : ℕ) (m : LogMachine) (s : StoreState) (quiet : Quiet s) (new :
   abbrev h : Header
   h = t.rests.header
 
-  abbrev first : FoundFirst found (length (journal_in rank s)) (recovered rank (objects_of (first_objects rank (header_in rank s) (journal_in rank s))))
-  first = of_first rank small s j0 found is
-
-  abbrev r : Recovery
-  r = first.recovery
-
-  abbrev objects : Objects
-  objects = objects_of (first_objects rank (header_in rank s) (journal_in rank s))
-
-  header_is : found.header ≡ h
-  header_is = first.found_is.header ∙ header_found rank small s j0 found is t.count t.journalled t.rests
-
-  tail_at : found.tail ≡ place_of j t.count
-  tail_at = first.found_is.tail ∙ tail_found rank small s j0 found is t.count t.journalled t.rests
-
-  low : found.tail < journal_limit
-  low = omega (arith, first.found_is.tail, first.first.low)
-
-  fits : entry_end (empty_log found.header rank found.tail) (event_bytes (subtree_map rank)) < 2 ^ 62
-  fits = let size : entry_length (event_bytes (subtree_map rank)) ≡ 44 = refl in omega (arith, low, size)
+  abbrev end : ℕ
+  end = place_of j t.count
 
   abbrev live : List Turn
-  live = front rank j t.older t.newer m t.count found.tail t.history t.enough tail_at
+  live = front rank j t.older t.newer m t.count end t.history t.enough refl
 
   carries : Carries rank (fresh_table rank) (new_state rank) live
-  carries = front_carries rank j t.older t.newer m t.count found.tail t.history t.enough tail_at
+  carries = front_carries rank j t.older t.newer m t.count end t.history t.enough refl
 
   start : t.rests.bounded.first ≡ 0
   start = omega (arith, place_back j t.rests.bounded.first 0 (omega (arith, t.rests.bounded.live, t.rests.within)) (omega (arith, t.rests.bounded.starts, t.whole)))
 
-  events_are : live_events (journal_of j h t.rests.bounded.first t.count) ≡ events live
-  events_are = live_from j h t.rests.bounded.first t.count start ∙ front_events rank j t.older t.newer m t.count found.tail t.history t.enough tail_at
+  -- ---- what is read
 
   abbrev read : LiveJournal
   read = journal_of j h t.rests.bounded.first t.count
 
-  recovery_is : r ≡ record { journal = read; table = merged_table rank objects read.events; tree = after_all (new_state rank) (requests live) }
-  recovery_is =
-      let journal : live_journal (get objects) rank ≡ Ok read = recovered_journal rank objects r first.recovers ∙ ap (λ (x : LiveJournal). Ok x) (journal_found rank small s j0 found is t.count t.journalled t.rests) in
-      ok_is r _ (sym first.recovers ∙ fresh_recovers rank objects read live (first_fresh rank small (header_in rank s) (journal_in rank s)) events_are small carries journal)
+  events_are : live_events read ≡ events live
+  events_are = live_from j h t.rests.bounded.first t.count start ∙ front_events rank j t.older t.newer m t.count end t.history t.enough refl
 
-  table_is : r.table ≡ overlay (fresh_table rank) (all_writes live)
-  table_is = ap (λ (x : Recovery). x.table) recovery_is ∙ fresh_merged rank objects read live (first_fresh rank small (header_in rank s) (journal_in rank s)) events_are
+  found_read : found_in rank (contents s) ≡ (replayed_of rank read >>= below_end)
+  unfolding replayed_in
+  found_read = ap (λ (r : Result LiveJournal Damage). (r >>= replayed_of rank) >>= below_end) (rests_read j t.count (contents s) t.journalled t.rests)
 
-  tree_is : state_of found.tree ≡ early_state (stopped m found.tail)
-  tree_is = first.found_is.tree ∙ (ap (λ (x : Recovery). x.tree) recovery_is ∙ sym (state_stopped rank j t.older t.newer m t.count found.tail t.history t.enough tail_at))
+  -- nothing was expired
+  served : is_served read ≡ true
+  served = elim (is_served read) as (λ b. is_served read ≡ b → b ≡ true) [
+    | true ↦ λ e. refl
+    | false ↦ λ e. absurd (subst (IsFound found) (found_read ∙ ap (λ (x : Result Recovery Damage). x >>= below_end) (not_served rank read e)) is)
+  ] refl
 
-  version_is : get (overlay (fresh_table rank) (all_writes live)).heads root ≡ Some found.root_version
-  version_is =
-      let whole : IsTreeOf rank (overlay (fresh_table rank) (all_writes live)) (after_all (new_state rank) (requests live)) = whole_tree rank (fresh_table rank) (new_state rank) live (fresh_tree rank small) carries in
-      some_of (get (overlay (fresh_table rank) (all_writes live)).heads root) (whole.dentries.heads root refl)
-      ∙ ap (λ n. Some n) (sym (first.found_is.version ∙ ap (λ (x : Table). unwrap_or (get x.heads root) 0) table_is))
+  expire_is : h.expire ≡ period h.layout
+  expire_is = eqb-true h.expire (period h.layout) served
+
+  abbrev r : Recovery
+  r = record { journal = read; table = overlay (fresh_table rank) (all_writes live); tree = after_all (new_state rank) (requests live) }
+
+  recovery_is : found_in rank (contents s) ≡ below_end r
+  recovery_is = found_read ∙ ap (λ (x : Result Recovery Damage). x >>= below_end) (history_replayed rank read live small t.rests.bounded.sound.layout expire_is carries events_are)
+
+  here : (nat_lt end (2 ^ 62) ≡ true) × IsFoundIn found r
+  here = found_below found r (nat_lt end (2 ^ 62)) (subst (IsFound found) recovery_is is)
+
+  -- ---- what was found
+
+  header_is : found.header ≡ h
+  header_is = here.1.header
+
+  tail_at : found.tail ≡ place_of j t.count
+  tail_at = here.1.tail
+
+  low : found.tail < 2 ^ 62
+  low = omega (arith, tail_at, ltb-true end (2 ^ 62) here.0)
+
+  early : j.start < 2 ^ 61
+  early = omega (arith, t.whole, expire_is, (sizes h.layout t.rests.bounded.sound.layout).period_most)
 
   -- ---- the facts
 
@@ -221,7 +216,7 @@ module _ (rank : ℕ) (m : LogMachine) (s : StoreState) (quiet : Quiet s) (new :
       subst (IsBounded (taken t.count j) (length (taken t.count j).events)) (taken_header j t.count (contents s) t.rests) (rests_taken j t.count (contents s) t.rests).bounded in
       subst (λ (x : Header). IsBounded (taken t.count j) (length (taken t.count j).events) (next_header x found.tail)) (sym header_is)
       (bounded_again (taken t.count j) (length (taken t.count j).events) h (next_header h found.tail) b
-      (next_sound h found.tail b.sound (omega (arith, tail_at, b.starts, t.whole, low_start)) (omega (arith, low))) refl refl refl (omega (arith, tail_at, tail_begun)))
+      (next_sound h found.tail b.sound (omega (arith, tail_at, b.starts, t.whole, low_start)) low) refl refl refl (omega (arith, tail_at, tail_begun)))
     where
       low_start : j.start ≤ place_of j t.count
       low_start = place_above j t.count
@@ -262,9 +257,8 @@ module _ (rank : ℕ) (m : LogMachine) (s : StoreState) (quiet : Quiet s) (new :
     history = history_stopped rank j t.older t.newer m t.count found.tail t.history t.enough tail_at;
     layout_is = layout_begun;
     tail_is = tail_is;
-    fits = fits;
-    tree_is = tree_is;
-    version_is = version_is;
+    early = early;
+    table_is = here.1.table;
     log_is = refl;
     bounded = bounded;
     from_start = ap (λ (x : Header). x.expire) header_is ∙ t.whole;
@@ -272,6 +266,6 @@ module _ (rank : ℕ) (m : LogMachine) (s : StoreState) (quiet : Quiet s) (new :
     new = new;
   }
 
-pub begins_mounted : (rank : ℕ) (m : LogMachine) (s : StoreState) (found : Found) (sent : ℕ) (v : MountValue) → v ≡ begun_value rank found sent → Rested rank m s → IsFound found (first_path_in rank s) → Mounted v (stopped m found.tail) s
+pub begins_mounted : (rank : ℕ) (m : LogMachine) (s : StoreState) (found : Found) (sent : ℕ) (v : MountValue) → v ≡ begun_value rank found sent → Rested rank m s → IsFound found (found_in rank (contents s)) → Mounted v (stopped m found.tail) s
 begins_mounted rank m s found sent v e rested is = subst (λ (x : MountValue). Mounted x (stopped m found.tail) s) (sym e)
     (mount_begun rank m s rested.quiet rested.new rested.journal (resting rank m s rested) found is sent)

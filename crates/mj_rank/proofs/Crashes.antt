@@ -8,6 +8,7 @@ use Rattle.std.specs.Option.{option_and_then}
 use Rattle.mj_base.specs.declared.object.ObjectName.{ObjectName}
 use Rattle.mj_base.specs.declared.object.ObjectName.TheVariants.{File, InoTable, SessionMap}
 use Rattle.mj_base.specs.declared.damage.Damage.TheVariants as damage
+use Rattle.mj_cells.specs.Table.{Table}
 use Rattle.mj_maps.specs.Map.{get}
 use Rattle.mj_tree.specs.State.{PlainState, new_state}
 use Rattle.mj_tree.specs.Answer.{after_all}
@@ -39,7 +40,7 @@ use Rattle.mj_facts.proofs.Laws.{serving_leaves}
 use Rattle.mj_journaler.specs.Journal.{Journal}
 use Rattle.mj_rank.specs.History.{IsHistory, members, turns_end}
 use Rattle.mj_rank.specs.Live.{Recovers, LeavesFronts, IsNewStore, Lives}
-use Rattle.mj_rank.proofs.FirstHistory.{StoresFresh, fresh_recovers}
+use Rattle.mj_rank.proofs.FreshHistory.{StoresFresh, fresh_recovers}
 use Rattle.mj_rank.proofs.Members.{members_append, members_requests, events_take}
 
 -- ---- the objects that are none of the journal
@@ -136,7 +137,7 @@ front_recovers rank j older newer m safe headers image s h enough whole new im f
     )
 
 -- of a rank
-pub lives_leave : (rank : ℕ) (l : Journal) (tree : PlainState) (version : ℕ) (m : LogMachine) (s : StoreState) → Lives rank l tree version m s → LeavesFronts rank m s
-lives_leave rank l tree version m s k image im =
+pub lives_leave : (rank : ℕ) (l : Journal) (cells : Table) (m : LogMachine) (s : StoreState) → Lives rank l cells m s → LeavesFronts rank m s
+lives_leave rank l cells m s k image im =
     front_recovers rank k.facts.journal k.older k.newer m k.facts.count (may_stand k.facts.stood k.facts.heads) image s k.history (omega (arith, k.count)) k.whole k.new im
     (serving_leaves k.facts s image k.serves im)

@@ -1,13 +1,13 @@
 -- A formatted store rests with an empty history of a new rank.
 use mathlib.Core.Path.{fun_ext}
 use Rattle.std.proofs.Common.{◌≡◌, inl, inr, ℕ, ◌^◌, ◌≤◌, true, false, cond, ◌==◌, List, [], ◌∷◌, map, Option, Some, None, refl, sym, ap, ◌∙◌, arith}
-use Rattle.std.specs.Prelude.{nat_le, option_map}
-use Rattle.std.specs.List.{AllByRecursion}
-use Rattle.std.proofs.lemmas.Bool.{ne_eqb, and_from, le-leb, lt-ltb}
+use Rattle.std.specs.Prelude.{nat_le, option_map, is_some}
+use Rattle.std.specs.Option.{option_and_then}
+use Rattle.std.proofs.lemmas.Bool.{eq-eqb, ne_eqb, and_from, le-leb, lt-ltb}
 use Rattle.mj_base.specs.ObjectName.{journal_ino, stray_ino}
 use Rattle.mj_base.specs.declared.object.ObjectName.{ObjectName}
-use Rattle.mj_base.specs.declared.object.ObjectName.TheVariants.{File}
-use Rattle.mj_maps.specs.Map.{entries, empty}
+use Rattle.mj_base.specs.declared.damage.Damage.TheVariants as damage
+use Rattle.mj_maps.specs.Map.{get, empty}
 use Rattle.mj_tree.specs.State.{root, new_state}
 use Rattle.mj_store.specs.Object.{Content, Contents, same_name}
 use Rattle.mj_store.specs.State.{StoreState, Quiet, contents}
@@ -21,15 +21,11 @@ use Rattle.mj_layout.proofs.Striped.{sizes}
 use Rattle.mj_recovery.specs.Stream.{journal_object}
 use Rattle.mj_recovery.specs.Objects.{Holds, content_of, objects_of}
 use Rattle.mj_recovery.specs.Listed.{found, image_of}
-use Rattle.mj_recovery.specs.ListedObjects.{listed_bad_table}
-use Rattle.mj_recovery.specs.Recovered.{bad_table, bad_key_of}
+use Rattle.mj_recovery.specs.Damage.{least}
+use Rattle.mj_recovery.specs.Recovered.{bad_table, bad_key_of, bad_dirfrag}
 use Rattle.mj_recovery.specs.Formatted.{keyless, formatted_header, formatted_objects}
-use Rattle.mj_recovery.proofs.Finished.{second}
-use Rattle.mj_recovery.proofs.BadObjects.{table_is}
 use Rattle.mj_recovery.proofs.Stores.{image_is}
-use Rattle.mj_recovery.proofs.Formatting.{held}
 use Rattle.mj_machine.specs.Machine.{opened}
-use Rattle.mj_delta.proofs.Fresh.{formatted_fresh}
 use Rattle.mj_facts.specs.Rests.{Rests}
 use Rattle.mj_facts.specs.Calls.{IsFormatted, blank_journal}
 use Rattle.mj_facts.specs.Elsewhere.{keys_of, IsUncommitted}
@@ -39,10 +35,10 @@ use Rattle.mj_facts.proofs.Heads.{header_is}
 use Rattle.mj_facts.proofs.Laws.{blank_journalled, formatted_rests}
 use Rattle.mj_facts.proofs.Quiet.{always_quiet}
 use Rattle.mj_facts.proofs.Uncommitted.{uncommitted_begins}
+use Rattle.mj_replay.proofs.Formatted.{tables_inside, dirs_inside, stored_fresh}
 use Rattle.mj_rank.specs.History.{IsHistory}
 use Rattle.mj_rank.specs.Live.{Rested, StoresNew, IsNewStore}
 use Rattle.mj_rank.proofs.Inverted.{ok_is}
-use Rattle.mj_rank.proofs.FirstObjects.{IsInside, found_inside, itself}
 
 -- what is not among these names is not found
 not_found : (hs : List HeldObject) (name : ObjectName) → (In name (map (λ (h : HeldObject). h.name) hs) → ⊥) → found name hs ≡ None
@@ -51,6 +47,15 @@ not_found (h ∷ hs) name none = elim (same_name name h.name) as (λ b. same_nam
   | true ↦ λ e. absurd (none (inl (sym (same_is name h.name e))))
   | false ↦ λ e. not_found hs name (λ i. none (inr i))
 ] refl
+
+-- a directory by itself
+alone_fine : (c : Contents) (d : ℕ) (o : Option (List ℕ)) → bad_key_of c d ≡ o → bad_dirfrag c (d ∷ []) ≡ None → o ≡ None
+alone_fine c d None e h = refl
+alone_fine c d (Some key) e h =
+    let bad : bad_dirfrag c (d ∷ []) ≡ Some (damage.DirfragBad d key) =
+    ap (λ (o : Option (List ℕ)). option_and_then (λ x. option_map (damage.DirfragBad x) (bad_key_of c x)) (least (cond (is_some o) (d ∷ []) []))) e ∙ ap (option_map (damage.DirfragBad d)) e in
+    let none : None ≡ Some (damage.DirfragBad d key) = sym h ∙ bad in
+    absurd cc
 
 module _ (rank : ℕ) (small : rank ≤ 15) (layout : Striping) (sound : IsStriping layout) where
   abbrev objects : List HeldObject
@@ -67,11 +72,11 @@ module _ (rank : ℕ) (small : rank ≤ 15) (layout : Striping) (sound : IsStrip
 
   header_there : found (journal_object rank 0) objects ≡ Some (keyless (journal_object rank 0) (header_bytes h) None)
   unfolding formatted_objects
-  header_there = rw (journal_root, journal_stray, itself (journal_ino rank)) refl
+  header_there = rw (journal_root, journal_stray, eq-eqb (journal_ino rank) (journal_ino rank) refl) refl
 
   none_later : (n : ℕ) → 1 ≤ n → found (journal_object rank n) objects ≡ None
   unfolding formatted_objects
-  none_later n le = let later : (n == 0) ≡ false = ne_eqb n 0 (λ e. omega (arith, le)) in rw (journal_root, journal_stray, itself (journal_ino rank), later) refl
+  none_later n le = let later : (n == 0) ≡ false = ne_eqb n 0 (λ e. omega (arith, le)) in rw (journal_root, journal_stray, eq-eqb (journal_ino rank) (journal_ino rank) refl, later) refl
 
   header_sound : IsHeader h
   header_sound =
@@ -84,14 +89,6 @@ module _ (rank : ℕ) (small : rank ≤ 15) (layout : Striping) (sound : IsStrip
         epoch = omega arith;
         order = and_from _ _ (and_from _ _ (and_from _ _ same same) same) (lt-ltb p (2 ^ 62) (omega (arith, z.period_most)));
       }
-
-  listed_tables : listed_bad_table rank objects ≡ None
-  unfolding formatted_objects
-  listed_tables = rw (itself rank) refl
-
-  all_inside : AllByRecursion IsInside objects
-  unfolding formatted_objects entries empty
-  all_inside = (refl, (refl, (refl, (refl, (refl, tt)))))
 
   -- ---- a store that holds them
 
@@ -117,9 +114,9 @@ module _ (rank : ℕ) (small : rank ≤ 15) (layout : Striping) (sound : IsStrip
     stores = record {
       objects = objects_of objects;
       holds = holds;
-      stored = formatted_fresh rank small layout sound;
-      tables = ap (λ (c : Contents). bad_table c rank) (sym (fun_ext holds)) ∙ (sym (table_is objects (second _ _ (held rank small layout sound)) rank) ∙ listed_tables);
-      dirfrags = λ d. ap (λ (c : Contents). bad_key_of c d) (sym (fun_ext image_objects)) ∙ found_inside objects all_inside (File d 0);
+      stored = stored_fresh rank small layout sound;
+      tables = ap (λ (c : Contents). bad_table c rank) (sym (fun_ext holds)) ∙ tables_inside rank small layout sound;
+      dirfrags = λ d. ap (λ (c : Contents). bad_key_of c d) (sym (fun_ext holds)) ∙ alone_fine (get (objects_of objects)) d _ refl (dirs_inside rank small layout sound (d ∷ []));
       keys = (None, empty);
       header = ap keys_of header_held;
     }

@@ -7,7 +7,7 @@ use Rattle.mj_tree.specs.State.{PlainState}
 use Rattle.mj_store.specs.declared.act.ObjectOp.{ObjectOp}
 use Rattle.mj_store.specs.declared.answer.Ack.{Ack}
 use Rattle.mj_store.specs.declared.answer.StoreFault.{StoreFault}
-use Rattle.mj_store.specs.State.{StoreState, tried, reported}
+use Rattle.mj_store.specs.State.{StoreState, contents, tried, reported}
 use Rattle.mj_store.specs.Causes.{In}
 use Rattle.mj_store.specs.Events.{Goes, Tells}
 use Rattle.mj_store.specs.Moves.{HasSize, HasNoneCompleted, Stays, Still, Submits}
@@ -16,6 +16,7 @@ use Rattle.mj_store.proofs.Rest.{quiet_still}
 use Rattle.mj_layout.specs.declared.Header.{Header}
 use Rattle.mj_layout.specs.declared.Phase.{Phase}
 use Rattle.mj_recovery.specs.Stream.{journal_object}
+use Rattle.mj_cache.specs.Cached.{early_table}
 use Rattle.mj_machine.specs.Machine.{LogMachine, stopped}
 use Rattle.mj_machine.specs.CrashSafe.{IsFrontState}
 use Rattle.mj_facts.specs.Calls.{cut_op}
@@ -28,7 +29,7 @@ use Rattle.mj_rank.specs.declared.mounting.Stage.{Stage}
 use Rattle.mj_rank.specs.declared.mounting.Stage.TheVariants.{Announcing, Announced, Cutting, Opened, Ready}
 use Rattle.mj_rank.specs.declared.rank.Rank.{Rank}
 use Rattle.mj_rank.specs.declared.refusal.MountRefusal.{MountRefusal}
-use Rattle.mj_rank.specs.FirstPath.{first_path_in, IsFound}
+use Rattle.mj_rank.specs.Finding.{found_in, IsFound}
 use Rattle.mj_rank.specs.Cutting.{Passes, IsBelowTail, without_cut, sent_cuts}
 use Rattle.mj_rank.specs.Request.{RankValue, value_of}
 use Rattle.mj_rank.specs.Mounts.{MountValue, mount_value, header_op, first_value, sent_at, sent_of, LooksTo, HasLooked, SendsAt, AwaitsAt, phase_at, next_stage, acked_stage, acked_out, SendsHeader, SendsCut, TakesAck, AwaitsMore, NotDone, IsHeldUp, MountSteps}
@@ -52,7 +53,7 @@ module _ {S : Type 0} (state : S → Option StoreState) (store new : S) (number 
   stop_stops = within_goes (λ image. (s : PlainState) × Recovers number image s × IsFrontState m s) t.now t.is (goes_stays stays) (λ image may. rested_leaves number m t.now t.holds image may)
 
 pub mount_begins : {S : Type 0} (state : S → Option StoreState) (store new : S) (number : ℕ) (m : LogMachine) (found : Found) (sent : ℕ) (v : MountValue) → v ≡ begun_value number found sent
-    → Stays (state store) (state new) → ((s : StoreState) → state store ≡ Some s → Still s → IsFound found (first_path_in number s)) → StopLives state store number m → Tells (state new) (OnItsWay v (stopped m found.tail))
+    → Stays (state store) (state new) → ((s : StoreState) → state store ≡ Some s → Still s → IsFound found (found_in number (contents s))) → StopLives state store number m → Tells (state new) (OnItsWay v (stopped m found.tail))
 mount_begins state store new number m found sent v e stays finds t =
     let still = quiet_still t.now t.holds.quiet in
     record {
@@ -329,6 +330,6 @@ pub mount_opened : {S : Type 0} (state : S → Option StoreState) (k : mounting.
 mount_opened state k r m ready same value t = record {
   now = t.now;
   is = ap state same ∙ t.is;
-  holds = subst (λ (v : RankValue). Lives v.number v.log v.tree v.root_version m t.now) (sym value)
+  holds = subst (λ (v : RankValue). Lives v.number v.log (early_table v.cache) m t.now) (sym value)
       (lives_opened (mount_value k) m t.now t.holds.mounted (subst (λ (stage : Stage). HasCut stage (mount_value k)) ready t.holds.mounted.cut));
 }

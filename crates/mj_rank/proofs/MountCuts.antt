@@ -62,9 +62,9 @@ taken {S = S} state old new mid op store e reaps awaits looked =
 
 -- ---- where it has looked at all objects near the tail
 
-module _ {S : Type 0} (state : S → Option StoreState) (old : mounting.Mounting S) (cutting : old.stage ≡ Cutting) (store : S) (order : old.cuts.end ≤ old.cuts.end) where
+module _ {S : Type 0} (state : S → Option StoreState) (old : mounting.Mounting S) (cutting : old.stage ≡ Cutting) (store : S) (order : old.cuts.end ≤ old.cuts.end) (cells : old.found.cache.rank ≡ old.number) where
   abbrev pub looked : mounting.Mounting S
-  looked = record old { store = store; cuts = record old.cuts { next = old.cuts.end; in_order = order } }
+  looked = record old { store = store; cuts = record old.cuts { next = old.cuts.end; in_order = order }; cells = cells }
 
   abbrev v : MountValue
   v = mount_value old
@@ -119,10 +119,10 @@ module _ {S : Type 0} (state : S → Option StoreState) (old : mounting.Mounting
 
 -- ---- where it has found an object that is to be cut
 
-module _ {S : Type 0} (state : S → Option StoreState) (old : mounting.Mounting S) (cutting : old.stage ≡ Cutting) (store : S) (index : ℕ) (op : ObjectOp)
+module _ {S : Type 0} (state : S → Option StoreState) (old : mounting.Mounting S) (cutting : old.stage ≡ Cutting) (store : S) (cells : old.found.cache.rank ≡ old.number) (index : ℕ) (op : ObjectOp)
     (finds : Finds old.number old.found.header.layout old.found.tail old.cuts.next old.cuts.end index op (state old.store) (state store)) where
   abbrev pub asked : mounting.Mounting S
-  asked = record old { store = store }
+  asked = record old { store = store; cells = cells }
 
   pub cut_steps : (new : mounting.Mounting S) (result : Result MountStep MountRefusal) → IfOk result (λ said. SendsTruncation state index op said asked new) → OnErr result (IsUnmoved state asked new) → MountSteps state result old new
   cut_steps new (Ok said) sends unmoved = subst (λ (x : MountStep). MountSteps state (Ok x) old new) (sym sends.says) (inr (record {

@@ -2,6 +2,7 @@
 use Rattle.std.proofs.Common.{◌≡◌, ◌⊎◌, inl, inr, ℕ, ◌+◌, ◌<◌, ◌≤◌, true, List, [], ◌∷◌, ◌++◌, length, drop, refl, sym, ap, subst, ◌∙◌, arith, Option, Some, None, Result, Ok, Err, OnErr, OnOk}
 use Rattle.std.specs.Prelude.{IfOk, unwrap_or}
 use Rattle.std.proofs.lemmas.Bool.{cases_lt}
+use Rattle.std.proofs.Math.Nat.{ℕ_set}
 use Rattle.mj_base.specs.declared.object.ObjectName.{ObjectName}
 use Rattle.mj_tree.specs.State.{PlainState}
 use Rattle.mj_store.specs.declared.answer.Ack.{Ack}
@@ -62,9 +63,8 @@ module _ (v : MountValue) (m : LogMachine) (s : StoreState) (k : Mounted v m s) 
     history = k.history;
     layout_is = k.layout_is;
     tail_is = k.tail_is;
-    fits = k.fits;
-    tree_is = k.tree_is;
-    version_is = k.version_is;
+    early = k.early;
+    table_is = k.table_is;
     log_is = k.log_is;
     bounded = k.bounded;
     from_start = k.from_start;
@@ -165,6 +165,10 @@ pub way_tried : (v : MountValue) (m : LogMachine) (name : ObjectName) (s : Store
 way_tried v m name s h = record { mounted = mounted_tried v m s h.mounted name; sent = λ up. out_tried (sent_of v) s (h.sent up) name }
 
 -- ---- a mount's calls
+
+-- it is the same by whatever proof its cells are those of its rank
+pub kept_same : {S : Type 0} (k : mounting.Mounting S) (store : S) (p q : k.found.cache.rank ≡ k.number) → record k { store = store; cells = p } ≡ record k { store = store; cells = q }
+kept_same k store p q = λ z. record k { store = store; cells = ℕ_set k.found.cache.rank k.number p q z }
 
 first_in : {A : Type 0} (xs : List A) (x : A) → first_of xs ≡ Some x → In x xs
 first_in [] x e = absurd cc

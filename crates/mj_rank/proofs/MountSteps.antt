@@ -220,9 +220,9 @@ module _ {S : Type 0} (state : S → Option StoreState) (k new : mounting.Mounti
     epoch = ap (λ (x : MountValue). x.header.epoch) e ∙ epoch;
     header = ap (λ (x : MountValue). x.found) e;
     tail = ap (λ (x : MountValue). x.tail) e;
-    tree = ap (λ (x : MountValue). x.tree) e;
-    version = ap (λ (x : MountValue). x.root_version) e;
+    cache = ap (λ (x : MountValue). x.cache) e;
     log = ap (λ (x : MountValue). x.log) e;
+    segment = ap (λ (x : MountValue). x.segment) e;
   }
 
   pub steps_keep : (result : Result MountStep MountRefusal) → MountSteps state result k new → KeepsFound k new
@@ -230,7 +230,7 @@ module _ {S : Type 0} (state : S → Option StoreState) (k new : mounting.Mounti
   steps_keep (Ok (step.Sent name)) (inr h) = keeps _ _ _ _ _ _ h.value refl
   steps_keep (Ok (step.Reaped op)) h = keeps _ _ _ _ _ _ h.value refl
   steps_keep (Ok step.Waiting) h = keeps _ _ _ _ _ _ h.value refl
-  steps_keep (Ok step.Ready) h = subst (λ (x : mounting.Mounting S). KeepsFound k x) (sym h.1) (record { number = refl; epoch = refl; header = refl; tail = refl; tree = refl; version = refl; log = refl })
+  steps_keep (Ok step.Ready) h = subst (λ (x : mounting.Mounting S). KeepsFound k x) (sym h.1) (record { number = refl; epoch = refl; header = refl; tail = refl; cache = refl; log = refl; segment = refl })
   steps_keep (Err e) h = keeps _ _ _ _ _ _ h.value refl
 
 -- ---- what is listed

@@ -1,25 +1,23 @@
 -- A mount sends its headers, takes their acknowledgements, and becomes a rank that serves.
-use Rattle.std.proofs.Common.{◌≡◌, inl, inr, ℕ, ◌+◌, ◌^◌, ◌<◌, ◌≤◌, true, List, [], ◌∷◌, ◌++◌, length, drop, Some, None, refl, sym, ap, subst, ◌∙◌, arith}
+use Rattle.std.proofs.Common.{◌≡◌, inl, inr, ℕ, ◌+◌, ◌-◌, ◌^◌, ◌<◌, ◌≤◌, true, false, List, [], ◌∷◌, ◌++◌, length, drop, Some, None, refl, sym, ap, subst, ◌∙◌, arith}
 use Rattle.std.proofs.lemmas.List.{append-nil}
-use Rattle.std.specs.Prelude.{nat_lt}
-use Rattle.std.proofs.lemmas.Bool.{and_from, lt-ltb}
+use Rattle.std.specs.Prelude.{nat_lt, is_none, if◌then◌else◌}
+use Rattle.std.proofs.lemmas.Bool.{cond_both, ltb-true}
 use Rattle.std.proofs.Math.Seq.{drop-append_seam}
-use Rattle.mj_maps.specs.Map.{get}
-use Rattle.mj_tree.specs.State.{PlainState, new_state, root}
-use Rattle.mj_tree.specs.Answer.{after}
+use Rattle.mj_tree.specs.State.{new_state}
 use Rattle.mj_store.specs.State.{StoreState, submitted}
 use Rattle.mj_store.specs.Causes.{In}
 use Rattle.mj_layout.specs.declared.Header.{Header}
 use Rattle.mj_layout.specs.declared.Phase.{Phase}
-use Rattle.mj_cells.specs.Table.{Table, overlay}
-use Rattle.mj_entry.specs.Entry.{entry_bytes}
+use Rattle.mj_cells.specs.Table.{overlay}
+use Rattle.mj_entry.specs.Entry.{entry_bytes, entry_length}
 use Rattle.mj_event.specs.declared.Event.{Event}
-use Rattle.mj_event.specs.Event.{IsEvent, event_bytes}
-use Rattle.mj_event.specs.Writes.{writes_of}
+use Rattle.mj_event.specs.Event.{event_bytes}
+use Rattle.mj_cache.specs.Cached.{early_table}
 use Rattle.mj_machine.specs.Machine.{LogMachine}
 use Rattle.mj_delta.specs.Histories.{Turn, events, all_writes, Carries}
 use Rattle.mj_delta.specs.Fresh.{fresh_table}
-use Rattle.mj_delta.proofs.Fronts.{writes-append}
+use Rattle.mj_delta.proofs.Fronts.{carries_on, writes-append}
 use Rattle.mj_facts.specs.Journalled.{Journalled, IsCarried, entry_of, size_of, end_of}
 use Rattle.mj_facts.specs.Headers.{HeadSent, may_stand, newest, IsBounded}
 use Rattle.mj_facts.specs.Ranks as facts
@@ -38,13 +36,18 @@ use Rattle.mj_facts.proofs.WhileMounting.{mounts_headed, in_order, mount_serves}
 use Rattle.mj_rank.specs.declared.mounting.Stage.{Stage}
 use Rattle.mj_journaler.specs.Journal as stream
 use Rattle.mj_journaler.specs.Journal.{Journal}
+use Rattle.mj_journaler.specs.Calls.{append_refusal}
+use Rattle.mj_journaler.specs.declared.AppendRefusal.TheVariants.{Full, Spent}
 use Rattle.mj_rank.specs.Cutting.{near_end, cuttings}
-use Rattle.mj_rank.specs.Log.{entry_end}
-use Rattle.mj_rank.specs.Mount.{subtree_map, empty_log, first_log}
+use Rattle.mj_rank.specs.Log.{entry_end, with_entry}
+use Rattle.mj_rank.specs.Mount.{subtree_map, empty_log, map_fits}
 use Rattle.mj_rank.specs.Mounts.{MountValue, header_op}
 use Rattle.mj_rank.specs.History.{IsHistory}
 use Rattle.mj_rank.specs.Live.{IsNewStore, HasCut, IsLogOf, Lives, Mounted}
+use Rattle.mj_rank.proofs.Asking.{map_carried}
 use Rattle.mj_rank.proofs.Cuts.{near_below}
+use Rattle.mj_rank.proofs.FirstLogs.{none_of}
+use Rattle.mj_rank.proofs.Living.{room_for}
 use Rattle.mj_rank.proofs.MountLives.{mounted_with, cut_same}
 use Rattle.mj_rank.proofs.Members.{events_append}
 use Rattle.mj_rank.proofs.Turns.{all_events}
@@ -91,9 +94,8 @@ module _ (v : MountValue) (m : LogMachine) (s : StoreState) (k : Mounted v m s) 
     history = k.history;
     layout_is = k.layout_is;
     tail_is = k.tail_is;
-    fits = k.fits;
-    tree_is = k.tree_is;
-    version_is = k.version_is;
+    early = k.early;
+    table_is = k.table_is;
     log_is = k.log_is;
     bounded = bounded_phased k.facts.journal (length k.facts.journal.events) v.header phase k.bounded;
     from_start = k.from_start;
@@ -119,18 +121,15 @@ module _ (v : MountValue) (m : LogMachine) (s : StoreState) (k : Mounted v m s) 
 
 -- ---- the rank begins
 
--- an event of no request
-carries_quiet : (rank : ℕ) (t : Table) (s : PlainState) (xs : List Turn) (e : Event) → IsEvent e → writes_of e ≡ [] → Carries rank t s xs → Carries rank t s (xs ++ (e, None) ∷ [])
-carries_quiet rank t s [] e is none c = ((is, none), tt)
-carries_quiet rank t s ((x, None) ∷ xs) e is none c = (c.0, carries_quiet rank t s xs e is none c.1)
-carries_quiet rank t s ((x, Some r) ∷ xs) e is none c = (c.0, carries_quiet rank (overlay t (writes_of x)) (after s r) xs e is none c.1)
-
-map_carried : (rank : ℕ) → rank ≤ 15 → IsCarried (subtree_map rank)
-map_carried rank small = ((refl, ((omega arith, (omega (arith, small), tt)), and_from (nat_lt 1 (0x100 + rank)) true (lt-ltb 1 (0x100 + rank) (omega arith)) refl)), refl)
-
-map_size : (rank : ℕ) → size_of (subtree_map rank) ≡ 44
-unfolding size_of
-map_size rank = refl
+-- what is refused although few bytes are unsafe ends above the last position
+late_of : (l : Journal) (payload : List ℕ) → stream.unsafe_of l + entry_length payload ≤ 8388608 → is_none (append_refusal l payload) ≡ false → 2 ^ 62 - 1 < entry_end l payload
+late_of l payload few refused =
+    let late = if nat_lt (2 ^ 62 - 1) (entry_end l payload) then Some (Spent (stream.end_of l)) else None in
+    cond_both (nat_lt 8388608 (stream.unsafe_of l + entry_length payload)) (Some (Full (stream.unsafe_of l))) late (λ o. is_none o ≡ false → 2 ^ 62 - 1 < entry_end l payload)
+    (λ b e. absurd (omega (arith, few, ltb-true 8388608 (stream.unsafe_of l + entry_length payload) b)))
+    (λ b. cond_both (nat_lt (2 ^ 62 - 1) (entry_end l payload)) (Some (Spent (stream.end_of l))) None (λ o. is_none o ≡ false → 2 ^ 62 - 1 < entry_end l payload)
+    (λ c e. ltb-true (2 ^ 62 - 1) (entry_end l payload) c) (λ c e. absurd cc))
+    refused
 
 module _ (v : MountValue) (m : LogMachine) (s : StoreState) (k : Mounted v m s) (ready : (v.out ≡ []) × (v.next ≡ v.end)) where
   abbrev j : Journalled
@@ -143,8 +142,9 @@ module _ (v : MountValue) (m : LogMachine) (s : StoreState) (k : Mounted v m s) 
   abbrev empty : Journal
   empty = empty_log v.found v.number v.tail
 
+  -- and then the map
   abbrev l : Journal
-  l = first_log v.found v.number v.tail
+  l = with_entry empty (event_bytes e)
 
   carried : IsCarried e
   carried = map_carried v.number k.history.small
@@ -168,65 +168,108 @@ module _ (v : MountValue) (m : LogMachine) (s : StoreState) (k : Mounted v m s) 
   end_is : end_of j ≡ v.tail
   end_is = sym (k.tail_is ∙ place_last j (length j.events) (omega arith))
 
-  room : end_of j + size_of e < 2 ^ 62
+  none : IsBuffer j (tail_of k.facts) []
+  none = record { wants = λ i less. absurd (omega (arith, less)); ends = omega (arith, end_is, k.tail_is) }
+
+  -- ---- where the map fits
+
+  module _ (room : end_of j + size_of e < 2 ^ 62) where
+    abbrev want : ℕ → ℕ
+    want = wanted_more j.want (end_of j) (entry_of (end_of j) e)
+
+    abbrev facts_after : facts.Rank
+    facts_after = appended (e ∷ []) want rank_facts
+
+    may : MayAppend rank_facts (e ∷ []) want
+    may = may_append rank_facts s e serves carried room (λ h i same. refl)
+
+    abbrev newer : List Turn
+    newer = (e, None) ∷ []
+
+    history : IsHistory v.number facts_after.journal k.turns newer m
+    history = record {
+      number = k.history.number;
+      small = k.history.small;
+      events = ap (λ (es : List Event). es ++ e ∷ []) (k.history.events ∙ ap events (append-nil k.turns)) ∙ sym (events_append k.turns newer);
+      carries = carries_on v.number (fresh_table v.number) (new_state v.number) k.turns newer
+          (subst (Carries v.number (fresh_table v.number) (new_state v.number)) (append-nil k.turns) k.history.carries) ((carried.0, refl), tt);
+      opening = k.history.opening;
+      history = k.history.history;
+      on_the_way = k.history.on_the_way;
+    }
+
+    log_opened : IsLogOf v.number l facts_after
+    unfolding entry_of size_of
+    log_opened =
+        let end : stream.end_of empty ≡ end_of j = omega (arith, end_is) in
+        let safe : safe_of facts_after ≡ v.tail = ends_kept j.start j.events (e ∷ []) (length j.events) (omega arith) ∙ sym k.tail_is in
+        let left : drop (length j.events) (j.events ++ e ∷ []) ≡ e ∷ [] = drop-append_seam j.events (e ∷ []) in
+        let last : entry_end empty (event_bytes e) ≡ v.tail + size_of e = omega arith in
+        record {
+          number = refl;
+          layout = k.layout_is;
+          safe = sym safe;
+          flushed = k.tail_is;
+          buffer = subst (λ (n : ℕ). IsBuffer (with_event e j) (tail_of k.facts) ([] ++ entry_bytes n (event_bytes e))) (sym end) (buffer_event j e (tail_of k.facts) [] none);
+          ends = (λ z. last z ∷ []) ∙ sym (λ z. entry_ends (safe z) (left z));
+          writes = refl;
+        }
+
+    opened_mapped : Lives v.number l (early_table v.cache) m s
+    opened_mapped = record {
+      facts = facts_after;
+      serves = serves_appended rank_facts s (e ∷ []) want serves may;
+      log = log_opened;
+      newest = record { sent = λ w i. absurd i; heads = λ w i. absurd i; removals = λ w i. absurd i };
+      older = k.turns;
+      newer = newer;
+      history = history;
+      count = omega (arith, all_events v.number j k.turns [] m k.history);
+      table_is = k.table_is ∙ sym (ap (overlay (fresh_table v.number)) (writes-append k.turns newer ∙ append-nil (all_writes k.turns)));
+      whole = k.whole;
+      begun = omega (arith, ends_append j.start j.events (e ∷ []), size_some e, place_above j (length j.events), place_last j (length j.events) (omega arith));
+      new = k.new;
+    }
+
+  -- ---- where it does not
+
+  module _ (late : 2 ^ 62 - 1 < entry_end empty (event_bytes e)) where
+    log_empty : IsLogOf v.number empty rank_facts
+    log_empty =
+        let left : drop (length j.events) j.events ≡ [] = ap (drop (length j.events)) (sym (append-nil j.events)) ∙ drop-append_seam j.events [] in
+        record {
+          number = refl;
+          layout = k.layout_is;
+          safe = k.tail_is;
+          flushed = k.tail_is;
+          buffer = none;
+          ends = sym (ap (entry_ends (safe_of rank_facts)) left);
+          writes = refl;
+        }
+
+    opened_empty : Lives v.number empty (early_table v.cache) m s
+    opened_empty = record {
+      facts = rank_facts;
+      serves = serves;
+      log = log_empty;
+      newest = record { sent = λ w i. absurd i; heads = λ w i. absurd i; removals = λ w i. absurd i };
+      older = k.turns;
+      newer = [];
+      history = k.history;
+      count = omega (arith, all_events v.number j k.turns [] m k.history);
+      table_is = k.table_is ∙ sym (ap (λ (xs : List Turn). overlay (fresh_table v.number) (all_writes xs)) (append-nil k.turns));
+      whole = k.whole;
+      begun = let size : entry_length (event_bytes e) ≡ 44 = refl in omega (arith, late, size, end_is, k.early);
+      new = k.new;
+    }
+
+  pub lives_opened : Lives v.number v.log (early_table v.cache) m s
   unfolding size_of
-  room = omega (arith, end_is, k.fits)
-
-  abbrev want : ℕ → ℕ
-  want = wanted_more j.want (end_of j) (entry_of (end_of j) e)
-
-  abbrev facts_after : facts.Rank
-  facts_after = appended (e ∷ []) want rank_facts
-
-  may : MayAppend rank_facts (e ∷ []) want
-  may = may_append rank_facts s e serves carried room (λ h i same. refl)
-
-  abbrev newer : List Turn
-  newer = (e, None) ∷ []
-
-  history : IsHistory v.number facts_after.journal k.turns newer m
-  history = record {
-    number = k.history.number;
-    small = k.history.small;
-    events = ap (λ (es : List Event). es ++ e ∷ []) (k.history.events ∙ ap events (append-nil k.turns)) ∙ sym (events_append k.turns newer);
-    carries = carries_quiet v.number (fresh_table v.number) (new_state v.number) k.turns e carried.0 refl
-        (subst (Carries v.number (fresh_table v.number) (new_state v.number)) (append-nil k.turns) k.history.carries);
-    opening = k.history.opening;
-    history = k.history.history;
-    on_the_way = k.history.on_the_way;
-  }
-
-  log_opened : IsLogOf v.number l facts_after
-  unfolding entry_of size_of
-  log_opened =
-      let end : stream.end_of empty ≡ end_of j = omega (arith, end_is) in
-      let safe : safe_of facts_after ≡ v.tail = ends_kept j.start j.events (e ∷ []) (length j.events) (omega arith) ∙ sym k.tail_is in
-      let left : drop (length j.events) (j.events ++ e ∷ []) ≡ e ∷ [] = drop-append_seam j.events (e ∷ []) in
-      let last : entry_end empty (event_bytes e) ≡ v.tail + size_of e = omega arith in
-      let none : IsBuffer j (tail_of k.facts) [] = record { wants = λ i less. absurd (omega (arith, less)); ends = omega (arith, end_is, k.tail_is) } in
-      record {
-        number = refl;
-        layout = k.layout_is;
-        safe = sym safe;
-        flushed = k.tail_is;
-        buffer = subst (λ (n : ℕ). IsBuffer (with_event e j) (tail_of k.facts) ([] ++ entry_bytes n (event_bytes e))) (sym end) (buffer_event j e (tail_of k.facts) [] none);
-        ends = (λ z. last z ∷ []) ∙ sym (λ z. entry_ends (safe z) (left z));
-        writes = refl;
-      }
-
-  pub lives_opened : Lives v.number v.log v.tree v.root_version m s
-  lives_opened = subst (λ (x : Journal). Lives v.number x v.tree v.root_version m s) (sym k.log_is) (record {
-    facts = facts_after;
-    serves = serves_appended rank_facts s (e ∷ []) want serves may;
-    log = log_opened;
-    newest = record { sent = λ w i. absurd i; heads = λ w i. absurd i; removals = λ w i. absurd i };
-    older = k.turns;
-    newer = newer;
-    history = history;
-    count = omega (arith, all_events v.number j k.turns [] m k.history);
-    tree_is = k.tree_is;
-    version_is = ap (λ ws. get (overlay (fresh_table v.number) ws).heads root) (writes-append k.turns newer ∙ append-nil (all_writes k.turns)) ∙ k.version_is;
-    whole = k.whole;
-    begun = omega (arith, ends_append j.start j.events (e ∷ []), size_some e, place_above j (length j.events), place_last j (length j.events) (omega arith));
-    new = k.new;
-  })
+  lives_opened =
+      let bytes = event_bytes e in
+      let size : entry_length bytes ≡ 44 = refl in
+      subst (λ (x : Journal). Lives v.number x (early_table v.cache) m s) (sym k.log_is)
+      (elim (map_fits v.found v.number v.tail) as (λ b. map_fits v.found v.number v.tail ≡ b → Lives v.number (if b then l else empty) (early_table v.cache) m s) [
+        | true ↦ λ fits. opened_mapped (omega (arith, end_is, room_for empty bytes (none_of (append_refusal empty bytes) fits)))
+        | false ↦ λ spent. opened_empty (late_of empty bytes (omega (arith, size)) spent)
+      ] refl)

@@ -12,10 +12,13 @@ use Rattle.mj_journaler.specs.declared.sent.Offer.TheVariants.{Flush, Head, Remo
 use Rattle.mj_journaler.proofs.Kept.{in_more}
 use Rattle.mj_journaler.proofs.Out.{without_less}
 use Rattle.mj_tree.specs.declared.request.ClientRequest.{ClientRequest}
-use Rattle.mj_tree.specs.declared.change.Decision.{Decision}
+use Rattle.mj_tree.specs.declared.request.Reply.{Reply}
+use Rattle.mj_event.specs.declared.Event.{Event}
+use Rattle.mj_event.specs.Event.{event_bytes}
 use Rattle.mj_rank.specs.declared.rank.Rank.{Rank}
 use Rattle.mj_rank.specs.Log.{log_value, is_none, is_unsent}
-use Rattle.mj_rank.specs.Request.{RankValue, value_of, with_event}
+use Rattle.mj_rank.specs.Request.{RankValue, value_of, map_in, answered, with_event}
+use Rattle.mj_rank.specs.Segment.{log_behind}
 use Rattle.mj_rank.specs.Since.{AllListed}
 
 -- a number above all that are listed is above all that are out
@@ -105,10 +108,24 @@ listed_acked list new op j k a b h =
 
 -- ---- a request, and the start
 
-pub accepted_listed : {S X E : Type 0} (result : Result X E) (old new : Rank S) (r : ClientRequest) (d : Decision) (payload : List ℕ) → OnOk result (value_of new ≡ with_event (value_of old) r d payload)
+behind_listed : (map : Option (List ℕ)) (j : Journal) (p : List ℕ) (list : List Listed) → AllListed list j → AllListed list (log_behind map j p)
+behind_listed None j p list h = h
+behind_listed (Some m) j p list h = h
+
+pub accepted_listed : {S X E : Type 0} (result : Result X E) (old new : Rank S) (e : Event) (r : ClientRequest) (x : Reply) (o : Option ℕ) → OnOk result (value_of new ≡ answered (with_event (value_of old) e) r x o)
     → OnErr result (value_of new ≡ value_of old) → (list : List Listed) → AllListed list old.log → AllListed list new.log
-accepted_listed (Ok x) old new r d payload after kept list h = subst (λ (v : RankValue). AllListed list v.log) (sym after) h
-accepted_listed (Err e) old new r d payload after kept list h = subst (λ (v : RankValue). AllListed list v.log) (sym kept) h
+accepted_listed (Ok y) old new e r x o after kept list h = subst (λ (v : RankValue). AllListed list v.log) (sym after) (behind_listed (map_in (value_of old)) (log_value old.log) (event_bytes e) list h)
+accepted_listed (Err y) old new e r x o after kept list h = subst (λ (v : RankValue). AllListed list v.log) (sym kept) h
+
+pub accepted_fault : {S X E : Type 0} (result : Result X E) (old new : Rank S) (e : Event) (r : ClientRequest) (x : Reply) (o : Option ℕ) → OnOk result (value_of new ≡ answered (with_event (value_of old) e) r x o)
+    → OnErr result (value_of new ≡ value_of old) → new.fault ≡ old.fault
+accepted_fault (Ok y) old new e r x o after kept = ap (λ (v : RankValue). v.fault) after
+accepted_fault (Err y) old new e r x o after kept = ap (λ (v : RankValue). v.fault) kept
+
+pub answered_fault : {S X E : Type 0} (result : Result X E) (old new : Rank S) (r : ClientRequest) (x : Reply) (o : Option ℕ) → OnOk result (value_of new ≡ answered (value_of old) r x o)
+    → OnErr result (value_of new ≡ value_of old) → new.fault ≡ old.fault
+answered_fault (Ok y) old new r x o after kept = ap (λ (v : RankValue). v.fault) after
+answered_fault (Err y) old new r x o after kept = ap (λ (v : RankValue). v.fault) kept
 
 pub value_listed : {S : Type 0} (old new : Rank S) (v : RankValue) → value_of new ≡ v → v.log ≡ log_value old.log → (list : List Listed) → AllListed list old.log → AllListed list new.log
 value_listed old new v is log list h = listed_same list list old.log new.log refl (ap (λ (x : RankValue). x.log) is ∙ log) h

@@ -7,14 +7,11 @@ use Rattle.mj_journaler.specs.Journal.{Journal, IsNew}
 use Rattle.mj_journaler.specs.Outstanding.{without, last_end, ends_above}
 use Rattle.mj_journaler.specs.Calls.{acked_to, acknowledged}
 use Rattle.mj_journaler.proofs.Out.{without_less}
-use Rattle.mj_maps.specs.Map.{get}
-use Rattle.mj_tree.specs.State.{PlainState, new_state, root}
-use Rattle.mj_tree.specs.Answer.{after_all}
 use Rattle.mj_store.specs.declared.answer.Ack.{Ack}
 use Rattle.mj_store.specs.State.{StoreState, reported}
-use Rattle.mj_cells.specs.Table.{overlay}
-use Rattle.mj_machine.specs.Machine.{LogMachine, early_state, made_safe}
-use Rattle.mj_delta.specs.Histories.{Turn, requests, all_writes}
+use Rattle.mj_cells.specs.Table.{Table, overlay}
+use Rattle.mj_machine.specs.Machine.{LogMachine, made_safe}
+use Rattle.mj_delta.specs.Histories.{Turn, all_writes}
 use Rattle.mj_delta.specs.Fresh.{fresh_table}
 use Rattle.mj_facts.specs.Journalled.{Journalled, ends, place_of}
 use Rattle.mj_facts.specs.Ranks as facts
@@ -26,11 +23,11 @@ use Rattle.mj_facts.proofs.Computed.{may_make_safe}
 use Rattle.mj_facts.proofs.WhileServing.{serves_reported, serves_done, serves_made_safe}
 use Rattle.mj_rank.specs.History.{IsHistory}
 use Rattle.mj_rank.specs.Live.{IsLogOf, Lives, writes_of}
-use Rattle.mj_rank.proofs.Turns.{early_is, all_events, more_end, same_turns, history_safe}
+use Rattle.mj_rank.proofs.Turns.{all_events, more_end, same_turns, history_safe}
 use Rattle.mj_rank.proofs.Acknowledged.{Acknowledged, is_acknowledged, last_end_is, ends_above_is, sent_or_left}
 use Rattle.mj_rank.proofs.Serving.{new_reported}
 
-module _ (rank : ℕ) (l : Journal) (tree : PlainState) (version : ℕ) (m : LogMachine) (s : StoreState) (a : Ack) (k : Lives rank l tree version m s) where
+module _ (rank : ℕ) (l : Journal) (cells : Table) (m : LogMachine) (s : StoreState) (a : Ack) (k : Lives rank l cells m s) where
   abbrev r : facts.Rank
   r = k.facts
 
@@ -104,12 +101,7 @@ module _ (rank : ℕ) (l : Journal) (tree : PlainState) (version : ℕ) (m : Log
   same : (k.older ++ take more k.newer) ++ drop more k.newer ≡ k.older ++ k.newer
   same = same_turns rank j k.older k.newer m k.history more
 
-  early : early_state m ≡ early_state (made_safe m (acknowledged a.op l).safe)
-  early =
-      early_is rank j k.older k.newer m k.history
-      ∙ (ap (λ (xs : List Turn). after_all (new_state rank) (requests xs)) (sym same) ∙ sym (early_is rank j (k.older ++ take more k.newer) (drop more k.newer) (made_safe m (acknowledged a.op l).safe) history))
-
-  pub lives_acked : s.completed ≡ a ∷ drop 1 s.completed → a.done ≡ true → Lives rank (acknowledged a.op l) tree version (made_safe m (acknowledged a.op l).safe) (reported s)
+  pub lives_acked : s.completed ≡ a ∷ drop 1 s.completed → a.done ≡ true → Lives rank (acknowledged a.op l) cells (made_safe m (acknowledged a.op l).safe) (reported s)
   lives_acked first done = record {
     facts = calls.made_safe count left r;
     serves = serves_reported (calls.made_safe count left r) s
@@ -120,8 +112,7 @@ module _ (rank : ℕ) (l : Journal) (tree : PlainState) (version : ℕ) (m : Log
     newer = drop more k.newer;
     history = history;
     count = omega (arith, up, length-append k.older (take more k.newer), length-take-le more k.newer fits);
-    tree_is = k.tree_is ∙ early;
-    version_is = ap (λ (xs : List Turn). get (overlay (fresh_table rank) (all_writes xs)).heads root) same ∙ k.version_is;
+    table_is = k.table_is ∙ sym (ap (λ (xs : List Turn). overlay (fresh_table rank) (all_writes xs)) same);
     whole = k.whole;
     begun = k.begun;
     new = new_reported rank s k.new;

@@ -4,7 +4,6 @@ use Rattle.std.proofs.lemmas.Bool.{cond_both}
 use Rattle.mj_base.specs.ObjectName.{journal_ino}
 use Rattle.mj_base.specs.declared.object.ObjectName.{ObjectName}
 use Rattle.mj_base.specs.declared.object.ObjectName.TheVariants.{File}
-use Rattle.mj_tree.specs.State.{PlainState}
 use Rattle.mj_store.specs.declared.act.ObjectAct.TheVariants.{Write}
 use Rattle.mj_store.specs.declared.act.ObjectOp.{ObjectOp}
 use Rattle.mj_store.specs.State.{StoreState, Object, Pending, submitted, tried, failed, reported, front_done, front_failed}
@@ -13,6 +12,7 @@ use Rattle.mj_store.proofs.Always.{always_tried, always_failed, always_reported}
 use Rattle.mj_layout.specs.Striping.{period}
 use Rattle.mj_layout.specs.Place.{object_of, offset_of, unit_end}
 use Rattle.mj_layout.proofs.Placed.{placing}
+use Rattle.mj_cells.specs.Table.{Table}
 use Rattle.mj_machine.specs.Machine.{LogMachine}
 use Rattle.mj_facts.specs.Journalled.{end_of}
 use Rattle.mj_facts.specs.Ranks.{Sent}
@@ -90,8 +90,8 @@ next_tried name s = let o = s.objects name in cond_both o.blocked s (front_done 
 next_failed : (name : ObjectName) (s : StoreState) → (failed name s).next ≡ s.next
 next_failed name s = let o = s.objects name in cond_both o.blocked s (front_failed name s o o.pending) (λ (t : StoreState). t.next ≡ s.next) (λ b. refl) (λ b. failed_next name s o o.pending)
 
-module _ (rank : ℕ) (l : Journal) (tree : PlainState) (version : ℕ) (m : LogMachine) (s : StoreState) (k : Lives rank l tree version m s) where
-  lives_in : (t : StoreState) → t.next ≡ s.next → Serves k.facts t → IsNewStore rank t → Lives rank l tree version m t
+module _ (rank : ℕ) (l : Journal) (cells : Table) (m : LogMachine) (s : StoreState) (k : Lives rank l cells m s) where
+  lives_in : (t : StoreState) → t.next ≡ s.next → Serves k.facts t → IsNewStore rank t → Lives rank l cells m t
   lives_in t next serves new = record {
     newest = subst (λ n. IsNew n l) (sym next) k.newest;
     facts = k.facts;
@@ -101,20 +101,19 @@ module _ (rank : ℕ) (l : Journal) (tree : PlainState) (version : ℕ) (m : Log
     newer = k.newer;
     history = k.history;
     count = k.count;
-    tree_is = k.tree_is;
-    version_is = k.version_is;
+    table_is = k.table_is;
     whole = k.whole;
     begun = k.begun;
     new = new;
   }
 
-  pub lives_tried : (name : ObjectName) → Lives rank l tree version m (tried name s)
+  pub lives_tried : (name : ObjectName) → Lives rank l cells m (tried name s)
   lives_tried name = lives_in (tried name s) (next_tried name s) (serves_tried k.facts s name k.serves) (new_tried rank s name k.new)
 
-  pub lives_failed : (name : ObjectName) → Lives rank l tree version m (failed name s)
+  pub lives_failed : (name : ObjectName) → Lives rank l cells m (failed name s)
   lives_failed name = lives_in (failed name s) (next_failed name s) (serves_failed k.facts s name k.serves) (new_failed rank s name k.new)
 
-  pub lives_reported : Lives rank l tree version m (reported s)
+  pub lives_reported : Lives rank l cells m (reported s)
   lives_reported = lives_in (reported s) refl (serves_reported k.facts s k.serves) (new_reported rank s k.new)
 
 -- ---- a write of the stream
@@ -127,9 +126,9 @@ writes_last (x ∷ ws) w = ap (λ (vs : List Sent). as_write x ∷ vs) (writes_l
 below_next : (ws : List journaler.Sent) (next op : ℕ) → next ≤ op → ((w : journaler.Sent) → In w ws → w.op < next) → (w : journaler.Sent) → In w ws → w.op < op + 1
 below_next ws next op h each w i = omega (arith, h, each w i)
 
-pub lives_wrote : (rank : ℕ) (l : Journal) (tree : PlainState) (version : ℕ) (m : LogMachine) (s : StoreState) (op to : ℕ) → s.next ≤ op → MaySend l (Some (Flush to))
-    → Lives rank l tree version m s → Lives rank (taken op (Flush to) l) tree version m (submitted (offer_op l (Flush to)) op s)
-lives_wrote rank l tree version m s op to next given k =
+pub lives_wrote : (rank : ℕ) (l : Journal) (cells : Table) (m : LogMachine) (s : StoreState) (op to : ℕ) → s.next ≤ op → MaySend l (Some (Flush to))
+    → Lives rank l cells m s → Lives rank (taken op (Flush to) l) cells m (submitted (offer_op l (Flush to)) op s)
+lives_wrote rank l cells m s op to next given k =
     let r = k.facts in
     let j = r.journal in
     let more : l.flushed < to = given.0 in
@@ -170,8 +169,7 @@ lives_wrote rank l tree version m s op to next given k =
       newer = k.newer;
       history = k.history;
       count = k.count;
-      tree_is = k.tree_is;
-      version_is = k.version_is;
+      table_is = k.table_is;
       whole = k.whole;
       begun = k.begun;
       new = new_written rank s op (offer_op l (Flush to)) (object_of (layout_of l) l.flushed) (ap (λ n. File (journal_ino n) (object_of (layout_of l) l.flushed)) k.log.number) one k.new;

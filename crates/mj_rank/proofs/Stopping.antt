@@ -4,8 +4,6 @@ use Rattle.std.proofs.Common.{◌≡◌, inl, inr, ℕ, Option, List, [], ◌∷
 use Rattle.std.proofs.Math.Seq.{take-nil}
 use Rattle.mj_base.specs.ObjectName.{journal_ino}
 use Rattle.mj_base.specs.declared.object.ObjectName.{ObjectName}
-use Rattle.mj_tree.specs.State.{PlainState}
-use Rattle.mj_tree.specs.Meaning.{state_of}
 use Rattle.mj_store.specs.Object.{Contents}
 use Rattle.mj_store.specs.State.{StoreState, IsImage, Quiet, contents, applied_all, at_rest, Pending, tried, failed, front_failed}
 use Rattle.mj_store.specs.Causes.{In}
@@ -17,6 +15,8 @@ use Rattle.std.specs.Prelude.{if◌then◌else◌}
 use Rattle.mj_facts.specs.Journalled.{Journalled}
 use Rattle.mj_store.proofs.Paths.{restarts_keeps, goes_restarts}
 use Rattle.mj_layout.specs.declared.Header.{Header}
+use Rattle.mj_cells.specs.Table.{Table}
+use Rattle.mj_cache.specs.Cached.{early_table}
 use Rattle.mj_machine.specs.Machine.{LogMachine}
 use Rattle.mj_facts.specs.Few.{IsAbsentBut}
 use Rattle.mj_facts.specs.Rests.{Rests, RestsWith, IsFront}
@@ -64,8 +64,8 @@ new_rests rank s image n im = record {
   few = few_rest n.names image s (λ name none. (always_image (IsAbsentBut n.names) s image n.few im name).1.absent none);
 }
 
-pub lives_stopped : (rank : ℕ) (l : Journal) (tree : PlainState) (version : ℕ) (m : LogMachine) (s : StoreState) (image : Contents) → IsImage s image → Lives rank l tree version m s → Rested rank m (at_rest image s)
-lives_stopped rank l tree version m s image im k =
+pub lives_stopped : (rank : ℕ) (l : Journal) (cells : Table) (m : LogMachine) (s : StoreState) (image : Contents) → IsImage s image → Lives rank l cells m s → Rested rank m (at_rest image s)
+lives_stopped rank l cells m s image im k =
     let r = serves_rests k.facts s image k.serves im in
     record {
       journal = k.facts.journal;
@@ -83,9 +83,9 @@ lives_stopped rank l tree version m s image im k =
 
 pub rank_stopped : {S : Type 0} (state : S → Option StoreState) (k : Rank S) (m : LogMachine) {told : Option StoreState} → Restarts (state k.store) told → RankLives state k m → Tells told (Rested k.number m)
 rank_stopped state k m restarts t =
-    restarts_keeps (Lives k.number (log_value k.log) (state_of k.tree) k.root_version m) (Rested k.number m)
-    (λ name s h. lives_tried k.number (log_value k.log) (state_of k.tree) k.root_version m s h name)
-    (λ image s im h. lives_stopped k.number (log_value k.log) (state_of k.tree) k.root_version m s image im h) restarts t
+    restarts_keeps (Lives k.number (log_value k.log) (early_table k.cache) m) (Rested k.number m)
+    (λ name s h. lives_tried k.number (log_value k.log) (early_table k.cache) m s h name)
+    (λ image s im h. lives_stopped k.number (log_value k.log) (early_table k.cache) m s image im h) restarts t
 
 -- in the store that is handed back
 module _ {S : Type 0} (state : S → Option StoreState) (k : Rank S) (store : S) {mid : S} (same : store ≡ mid) where

@@ -1,13 +1,12 @@
 pub mod Since
 pub mod Refusals
 pub mod Log
-pub mod Sound
-pub mod Journaled
-pub mod Waiting
+pub mod Mount
+pub mod Segment
+pub mod Entries
 pub mod Request
 pub mod Sending
-pub mod Mount
-pub mod FirstPath
+pub mod Finding
 pub mod Cutting
 pub mod Mounts
 pub mod History

@@ -6,22 +6,20 @@
 --     Recovers       an image recovers to a tree
 use Rattle.std.specs.Prelude.{◌≡◌, ℕ, ◌^◌, ◌<◌, ◌≤◌, List, [], ◌++◌, map, length, drop, Option, Some, None, unwrap_or}
 use Rattle.mj_base.specs.declared.object.ObjectName.{ObjectName}
-use Rattle.mj_maps.specs.Map.{get}
-use Rattle.mj_tree.specs.State.{PlainState, root}
-use Rattle.mj_tree.specs.Meaning.{state_of}
+use Rattle.mj_tree.specs.State.{PlainState}
 use Rattle.mj_tree.specs.declared.request.ClientRequest.{ClientRequest}
 use Rattle.mj_store.specs.Object.{Contents, Pairs}
 use Rattle.mj_store.specs.State.{StoreState, IsImage, Quiet, contents}
 use Rattle.mj_store.specs.Causes.{In}
 use Rattle.mj_store.specs.Events.{Tells, Within}
 use Rattle.mj_layout.specs.declared.Header.{Header}
-use Rattle.mj_cells.specs.Table.{overlay}
+use Rattle.mj_cells.specs.Table.{Table, overlay}
+use Rattle.mj_cache.specs.Cached.{early_table}
 use Rattle.mj_recovery.specs.Stream.{journal_object}
 use Rattle.mj_recovery.specs.Objects.{Objects, Holds}
 use Rattle.mj_recovery.specs.Recovered.{Recovery, RecoversTo, stored_table, bad_table, bad_key_of}
-use Rattle.mj_machine.specs.Machine.{LogMachine, early_state, accepted, made_safe}
+use Rattle.mj_machine.specs.Machine.{LogMachine, accepted, made_safe}
 use Rattle.mj_machine.specs.CrashSafe.{IsFrontState, IsCrashSafe}
-use Rattle.mj_event.specs.Event.{event_bytes}
 use Rattle.mj_delta.specs.Histories.{Turn, all_writes}
 use Rattle.mj_delta.specs.Fresh.{fresh_table}
 use Rattle.mj_facts.specs.Journalled.{Journalled, IsJournalled, end_of}
@@ -43,9 +41,9 @@ use Rattle.mj_rank.specs.declared.mounting.Stage.TheVariants.{Announcing, Announ
 use Rattle.mj_rank.specs.declared.rank.Rank.{Rank}
 use Rattle.mj_journaler.specs.Journal.{Journal, layout_of, IsNew}
 use Rattle.mj_journaler.specs.declared.sent.Sent as journaler
-use Rattle.mj_rank.specs.Log.{log_value, entry_end}
+use Rattle.mj_rank.specs.Log.{log_value}
 use Rattle.mj_rank.specs.Cutting.{near_end, cuttings}
-use Rattle.mj_rank.specs.Mount.{empty_log, first_log, subtree_map}
+use Rattle.mj_rank.specs.Mount.{first_log}
 use Rattle.mj_rank.specs.Mounts.{MountValue, mount_value}
 use Rattle.mj_rank.specs.Flight.{GoesOn}
 use Rattle.mj_rank.specs.History.{IsHistory}
@@ -101,8 +99,8 @@ pub record IsLogOf (rank : ℕ) (l : Journal) (r : facts.Rank) : Type 0 where
   pub ends : l.ends ≡ entry_ends (safe_of r) (drop r.count r.journal.events)
   pub writes : r.sent ≡ writes_of l.sent
 
--- A rank with this log, tree and version of the root's head, and the machine, over a store in this state.
-pub record Lives (rank : ℕ) (l : Journal) (tree : PlainState) (version : ℕ) (m : LogMachine) (s : StoreState) : Type 0 where
+-- A rank with this log and these cells, and the machine, over a store in this state.
+pub record Lives (rank : ℕ) (l : Journal) (cells : Table) (m : LogMachine) (s : StoreState) : Type 0 where
   pub facts : facts.Rank
   pub serves : Serves facts s
   pub log : IsLogOf rank l facts
@@ -112,15 +110,15 @@ pub record Lives (rank : ℕ) (l : Journal) (tree : PlainState) (version : ℕ) 
   pub newer : List Turn
   pub history : IsHistory rank facts.journal older newer m
   pub count : facts.count ≡ length older
-  pub tree_is : tree ≡ early_state m
-  pub version_is : get (overlay (fresh_table rank) (all_writes (older ++ newer))).heads root ≡ Some version
+  -- the cells are a new rank's with all that was journalled
+  pub table_is : cells ≡ overlay (fresh_table rank) (all_writes (older ++ newer))
   -- nothing is expired, and an entry was journalled
   pub whole : (h : Header) → In h (may_stand facts.stood facts.heads) → h.expire ≡ facts.journal.start
   pub begun : facts.journal.start < end_of facts.journal
   pub new : IsNewStore rank s
 
 abbrev pub RankLives : {S : Type 0} → (S → Option StoreState) → Rank S → LogMachine → Type 0
-RankLives state k m = Tells (state k.store) (Lives k.number (log_value k.log) (state_of k.tree) k.root_version m)
+RankLives state k m = Tells (state k.store) (Lives k.number (log_value k.log) (early_table k.cache) m)
 
 -- the machine after a rank's reap
 abbrev pub after_reap : LogMachine → Reaped → LogMachine
@@ -165,7 +163,7 @@ HasCut Opened v = (v.out ≡ []) × (v.next ≡ v.end)
 HasCut Ready v = (v.out ≡ []) × (v.next ≡ v.end)
 
 -- A mount with this value. Each object near the tail below the next one was seen to, the truncations that are out are its own, and
--- the header that it sends next is one by which the whole journal is read, in whatever phase. The first entry of its rank fits.
+-- the header that it sends next is one by which the whole journal is read, in whatever phase.
 pub record Mounted (v : MountValue) (m : LogMachine) (s : StoreState) : Type 0 where
   pub facts : facts.Mount
   pub mounts : Mounts facts s
@@ -178,9 +176,9 @@ pub record Mounted (v : MountValue) (m : LogMachine) (s : StoreState) : Type 0 w
   pub history : IsHistory v.number facts.journal turns [] m
   pub layout_is : v.found.layout ≡ facts.journal.layout
   pub tail_is : v.tail ≡ tail_of facts
-  pub fits : entry_end (empty_log v.found v.number v.tail) (event_bytes (subtree_map v.number)) < 2 ^ 62
-  pub tree_is : v.tree ≡ early_state m
-  pub version_is : get (overlay (fresh_table v.number) (all_writes turns)).heads root ≡ Some v.root_version
+  -- the journal does not begin where positions end
+  pub early : facts.journal.start < 2 ^ 61
+  pub table_is : early_table v.cache ≡ overlay (fresh_table v.number) (all_writes turns)
   pub log_is : v.log ≡ first_log v.found v.number v.tail
   pub bounded : IsBounded facts.journal (length facts.journal.events) v.header
   pub from_start : v.header.expire ≡ facts.journal.start

@@ -1,7 +1,7 @@
 -- How a mount begins, what its steps make of it, and the rank that it ends in.
 use Rattle.std.specs.Prelude.{◌≡◌, ◌⊎◌, ◌≢◌, ℕ, ◌+◌, true, false, List, [], ◌∷◌, ◌++◌, Option, Some, None, IsSome, Result, Ok, Err}
-use Rattle.mj_tree.specs.State.{PlainState}
-use Rattle.mj_tree.specs.Meaning.{state_of}
+use Rattle.mj_base.specs.declared.damage.Damage.{Damage}
+use Rattle.mj_cache.specs.Cached.{CacheValue}
 use Rattle.mj_base.specs.declared.object.ObjectName.{ObjectName}
 use Rattle.mj_store.specs.declared.act.ObjectAct.TheVariants.{Write}
 use Rattle.mj_store.specs.declared.act.ObjectOp.{ObjectOp}
@@ -23,10 +23,10 @@ use Rattle.mj_rank.specs.declared.answers.MountStep.{MountStep}
 use Rattle.mj_rank.specs.declared.answers.MountStep.TheVariants as step
 use Rattle.mj_rank.specs.declared.refusal.MountRefusal.{MountRefusal}
 use Rattle.mj_rank.specs.Cutting.{near_from, near_end, Passes, Finds, sent_cuts, without_cut}
-use Rattle.mj_rank.specs.FirstPath.{IsFound, IsRefused}
+use Rattle.mj_rank.specs.Finding.{IsFound, IsRefused}
 use Rattle.mj_journaler.specs.Journal.{Journal}
 use Rattle.mj_rank.specs.Log.{log_value}
-use Rattle.mj_rank.specs.Mount.{first_log, next_header}
+use Rattle.mj_rank.specs.Mount.{first_log, first_segment, next_header}
 use Rattle.mj_rank.specs.Request.{RankValue}
 
 -- What is kept of a mount beside its store: the header that it sends, what it has found, the log that its rank begins with, how
@@ -37,9 +37,9 @@ pub record MountValue : Type 0 where
   pub header : Header
   pub found : Header
   pub tail : ℕ
-  pub tree : PlainState
-  pub root_version : ℕ
+  pub cache : CacheValue
   pub log : Journal
+  pub segment : Option ℕ
   pub stage : Stage
   pub sent : ℕ
   pub next : ℕ
@@ -53,9 +53,9 @@ mount_value k = record {
   header = k.header;
   found = k.found.header;
   tail = k.found.tail;
-  tree = state_of k.found.tree;
-  root_version = k.found.root_version;
+  cache = k.found.cache;
   log = log_value k.log.journal;
+  segment = k.log.segment;
   stage = k.stage;
   sent = k.sent;
   next = k.cuts.next;
@@ -69,20 +69,23 @@ pub record Begins {S : Type 0} (rank : ℕ) (m : mounting.Mounting S) : Type 0 w
   pub number : m.number ≡ rank
   pub header : m.header ≡ next_header m.found.header m.found.tail
   pub log : log_value m.log.journal ≡ first_log m.found.header rank m.found.tail
+  pub segment : m.log.segment ≡ first_segment m.found.header rank m.found.tail
+  pub cells : m.found.cache.rank ≡ rank
+  pub safe : m.found.cache.groups ≡ []
   pub stage : m.stage ≡ Announcing
   pub next : m.cuts.next ≡ near_from m.found.header.layout m.found.tail
   pub end : m.cuts.end ≡ near_end m.found.header.layout m.found.tail
   pub out : m.cuts.out.items ≡ []
   pub fault : m.fault ≡ None
 
--- It has found the recovery, or is refused for want of one.
-abbrev pub BeginsAs : {S : Type 0} → Result (mounting.Mounting S) (S × MountRefusal) → Option Recovery → Type 0
-BeginsAs (Ok m) o = IsFound m.found o
-BeginsAs (Err e) o = IsRefused e.1 o
+-- It has found the recovery, or is refused for the damage.
+abbrev pub BeginsAs : {S : Type 0} → Result (mounting.Mounting S) (S × MountRefusal) → Result Recovery Damage → Type 0
+BeginsAs (Ok m) r = IsFound m.found r
+BeginsAs (Err e) r = IsRefused e.1 r
 
--- the rank has the mount's header, log and tree, and has answered nothing
+-- the rank has the mount's header, log and cells, and has answered nothing
 abbrev pub first_value : {S : Type 0} → mounting.Mounting S → RankValue
-first_value m = record { number = m.number; epoch = m.header.epoch; log = log_value m.log.journal; tree = state_of m.found.tree; root_version = m.found.root_version; waiting = []; asked = 0; fault = None }
+first_value m = record { number = m.number; epoch = m.header.epoch; log = log_value m.log.journal; cache = m.found.cache; chronicle = []; segment = m.log.segment; fault = None }
 
 -- What a mount has found stays, and the log that it begins with.
 pub record KeepsFound {S : Type 0} (old new : mounting.Mounting S) : Type 0 where
@@ -90,9 +93,9 @@ pub record KeepsFound {S : Type 0} (old new : mounting.Mounting S) : Type 0 wher
   pub epoch : new.header.epoch ≡ old.header.epoch
   pub header : new.found.header ≡ old.found.header
   pub tail : new.found.tail ≡ old.found.tail
-  pub tree : state_of new.found.tree ≡ state_of old.found.tree
-  pub version : new.found.root_version ≡ old.found.root_version
+  pub cache : new.found.cache ≡ old.found.cache
   pub log : log_value new.log.journal ≡ log_value old.log.journal
+  pub segment : new.log.segment ≡ old.log.segment
 
 -- ---- what is sent and not acknowledged
 

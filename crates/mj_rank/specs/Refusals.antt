@@ -4,6 +4,8 @@ use Rattle.mj_store.specs.declared.answer.ReadRefusal.{ReadRefusal}
 use Rattle.mj_store.specs.declared.answer.ReadRefusal.TheVariants as read
 use Rattle.mj_store.specs.declared.answer.SubmitRefusal.{SubmitRefusal}
 use Rattle.mj_store.specs.declared.answer.SubmitRefusal.TheVariants as submit
+use Rattle.mj_replay.specs.declared.refusal.JournalRefusal.{JournalRefusal}
+use Rattle.mj_replay.specs.declared.refusal.JournalRefusal.TheVariants as journal
 use Rattle.mj_rank.specs.declared.answers.Fault.{Fault}
 use Rattle.mj_journaler.specs.declared.AppendRefusal.{AppendRefusal}
 use Rattle.mj_journaler.specs.declared.AppendRefusal.TheVariants.{Full, Spent}
@@ -42,6 +44,11 @@ IsStoreFault _ = ⊥
 abbrev pub of_read : ReadRefusal → MountRefusal
 of_read (read.Failed fault) = mount.Store fault
 of_read read.Memory = mount.Memory
+
+abbrev pub of_journal : JournalRefusal → MountRefusal
+of_journal (journal.Damage d) = mount.Damage d
+of_journal (journal.Store fault) = mount.Store fault
+of_journal journal.Memory = mount.Memory
 
 abbrev pub of_submit : SubmitRefusal → MountRefusal
 of_submit (submit.Failed fault) = mount.Store fault

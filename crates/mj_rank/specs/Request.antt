@@ -1,55 +1,61 @@
 -- A rank as a value, and what a request makes of it.
-use Rattle.std.specs.Prelude.{◌≡◌, ℕ, ◌+◌, nat_le, List, [], ◌∷◌, ◌++◌, if◌then◌else◌, Option, None, Some}
+use Rattle.std.specs.Prelude.{◌≡◌, ℕ, ◌+◌, ◌≤◌, nat_lt, List, [], ◌∷◌, ◌++◌, length, if◌then◌else◌, Option, None, Some}
 use Rattle.std.specs.Option.{option_and_then}
 use Rattle.mj_event.specs.declared.Event.{Event}
-use Rattle.mj_event.specs.Event.{event_bytes}
-use Rattle.mj_tree.specs.declared.change.Decision.{Decision}
-use Rattle.mj_tree.specs.declared.change.Decision.TheVariants.{Answered}
+use Rattle.mj_entry.specs.Entry.{entry_length}
+use Rattle.mj_event.specs.Event.{IsEvent, event_bytes}
+use Rattle.mj_event.specs.Writes.{writes_of}
 use Rattle.mj_tree.specs.declared.request.ClientRequest.{ClientRequest}
+use Rattle.mj_tree.specs.declared.request.Reply.{Reply}
 use Rattle.mj_tree.specs.declared.request.Reply.TheVariants.{Done}
 use Rattle.mj_tree.specs.State.{PlainState}
-use Rattle.mj_tree.specs.Answer.{decision, reply_of, state_after}
-use Rattle.mj_tree.specs.Meaning.{state_of}
+use Rattle.mj_tree.specs.Answer.{answer, decision}
+use Rattle.mj_machine.specs.declared.kept.ChronicleEntry.{ChronicleEntry}
+use Rattle.mj_cache.specs.Cached.{CacheValue, early_table, early_tree, projected}
+use Rattle.mj_cells.specs.Table.{overlay}
+use Rattle.mj_judge.specs.Own.{own_damage}
+use Rattle.mj_delta.specs.EventFor.{event_for}
+use Rattle.mj_chronicle.specs.Room.{has_room}
+use Rattle.mj_chronicle.specs.Ends.{last_end}
 use Rattle.mj_rank.specs.declared.answers.Early.{Early}
 use Rattle.mj_rank.specs.declared.answers.Fault.{Fault}
 use Rattle.mj_rank.specs.declared.rank.Rank.{Rank}
-use Rattle.mj_rank.specs.declared.waiting.Waiting.{Waiting}
 use Rattle.mj_rank.specs.declared.refusal.RankRefusal.{RankRefusal}
 use Rattle.mj_rank.specs.declared.refusal.RankRefusal.TheVariants as refusal
 use Rattle.mj_journaler.specs.declared.AppendRefusal.{AppendRefusal}
 use Rattle.mj_journaler.specs.declared.AppendRefusal.TheVariants.{Full, Spent, Memory}
 use Rattle.mj_journaler.specs.Journal.{Journal}
-use Rattle.mj_journaler.specs.Calls.{append_refusal}
-use Rattle.mj_rank.specs.Log.{log_value, entry_end, with_entry}
-use Rattle.mj_rank.specs.Journaled.{event_of, version_after}
-use Rattle.mj_rank.specs.Waiting.{waiting_end, unsafe_end}
+use Rattle.mj_rank.specs.Log.{log_value}
+use Rattle.mj_rank.specs.Segment as segment
+use Rattle.mj_rank.specs.Segment.{due_map, event_refusal, log_behind, events_after, map_length}
+use Rattle.mj_rank.specs.declared.entries.Entries.{Entries}
+use Rattle.mj_rank.specs.Entries.{map_of}
 
--- What is kept of a rank beside its store: its journal, the state of its tree, the version of the root's head, which replies
--- wait for their events to be safe, how many requests it answered, and the fault for which it is down.
+-- What is kept of a rank beside its store: its journal, its cells, what it answered, how many events the current segment has, if one
+-- has begun, and the fault for which it is down.
 pub record RankValue : Type 0 where
   pub number : ℕ
   pub epoch : ℕ
   pub log : Journal
-  pub tree : PlainState
-  pub root_version : ℕ
-  pub waiting : List Waiting
-  pub asked : ℕ
+  pub cache : CacheValue
+  pub chronicle : List ChronicleEntry
+  pub segment : Option ℕ
   pub fault : Option Fault
 
 abbrev pub value_of : {S : Type 0} → Rank S → RankValue
-value_of k = record { number = k.number; epoch = k.epoch; log = log_value k.log; tree = state_of k.tree; root_version = k.root_version; waiting = k.waiting.items; asked = k.asked; fault = k.fault }
+value_of k = record { number = k.number; epoch = k.epoch; log = log_value k.log; cache = k.cache; chronicle = k.chronicle; segment = k.segment; fault = k.fault }
 
--- the most requests of one mount
-abbrev pub most_requests : ℕ
-most_requests = 1048576
+-- the tree of all accepted requests
+abbrev pub tree_in : RankValue → PlainState
+tree_in v = early_tree v.cache
 
--- ---- what a request comes to, and its event
+-- ---- what a request is answered, and its event
 
-abbrev pub decided : RankValue → ClientRequest → Decision
-decided v r = decision v.tree r
+abbrev pub reply_in : RankValue → ClientRequest → Reply
+reply_in v r = answer (tree_in v) r
 
 abbrev pub event_in : RankValue → ClientRequest → Option Event
-event_in v r = event_of v.root_version v.tree r (decided v r)
+event_in v r = event_for v.cache.rank (early_table v.cache) (tree_in v) r (decision (tree_in v) r)
 
 -- ---- why it is refused
 
@@ -65,14 +71,18 @@ of_append (Full bytes) = Some (Cause.IsFull bytes)
 of_append (Spent position) = Some (Cause.IsAtEnd position)
 of_append Memory = None
 
--- the event's entry does not fit
-abbrev pub cause_of_event : Journal → Option Event → Option Cause
-cause_of_event l None = None
-cause_of_event l (Some e) = option_and_then of_append (append_refusal l (event_bytes e))
+-- the map that comes before the next event, where one does
+abbrev pub map_in : RankValue → Option (List ℕ)
+map_in v = due_map v.number v.segment
+
+-- the event's entry does not fit, with the map before it
+abbrev pub cause_of_event : RankValue → Option Event → Option Cause
+cause_of_event v None = None
+cause_of_event v (Some e) = option_and_then of_append (event_refusal (map_in v) v.log (event_bytes e))
 
 abbrev pub cause_by : RankValue → ClientRequest → Option Fault → Option Cause
 cause_by v r (Some fault) = Some (Cause.IsDown fault)
-cause_by v r None = if nat_le most_requests v.asked then Some (Cause.IsSpent v.asked) else cause_of_event v.log (event_in v r)
+cause_by v r None = if has_room v.chronicle r (reply_in v r) then cause_of_event v (event_in v r) else Some (Cause.IsSpent (length v.chronicle))
 
 -- the first cause that holds
 abbrev pub cause_of : RankValue → ClientRequest → Option Cause
@@ -86,38 +96,63 @@ Says (refusal.LogFull bytes sealed) cause = cause ≡ Some (Cause.IsFull bytes)
 Says (refusal.PositionSpent position sealed) cause = cause ≡ Some (Cause.IsAtEnd position)
 Says refusal.Memory cause = Unit {0}
 
--- ---- what it is answered
+-- ---- where its event ends
+
+-- where it is not safe yet
+abbrev pub unsafe_end : ℕ → ℕ → Option ℕ
+unsafe_end safe end = if nat_lt safe end then Some end else None
 
 -- a reply that was kept has the end of its old event
-abbrev pub kept_end : RankValue → ClientRequest → Decision → Option ℕ
-kept_end v r (Answered (Done i)) = option_and_then (unsafe_end v.log.safe) (waiting_end r.client r.tid v.waiting)
+abbrev pub kept_end : RankValue → ClientRequest → Reply → Option ℕ
+kept_end v r (Done i) = option_and_then (unsafe_end v.log.safe) (last_end r.client r.tid v.chronicle)
 kept_end v r _ = None
 
-abbrev pub end_of : RankValue → ClientRequest → Decision → Option Event → Option ℕ
-end_of v r d None = kept_end v r d
-end_of v r d (Some e) = Some (entry_end v.log (event_bytes e))
+abbrev pub event_end : RankValue → Event → ℕ
+event_end v e = segment.event_end (map_in v) v.log (event_bytes e)
+
+-- with this reply
+abbrev pub end_by : RankValue → ClientRequest → Reply → Option Event → Option ℕ
+end_by v r x None = kept_end v r x
+end_by v r x (Some e) = Some (event_end v e)
+
+abbrev pub end_in : RankValue → ClientRequest → Option ℕ
+end_in v r = end_by v r (reply_in v r) (event_in v r)
+
+-- ---- what it is answered
 
 abbrev pub early_of : RankValue → ClientRequest → Early
-early_of v r = record { reply = reply_of (decided v r); ends_at = end_of v r (decided v r) (event_in v r); place = v.asked }
+early_of v r = record { reply = reply_in v r; ends_at = end_in v r; place = length v.chronicle }
 
 -- ---- what it leaves
 
-abbrev pub asked_once_more : RankValue → RankValue
-asked_once_more v = record v { asked = v.asked + 1 }
+-- the chronicle has a request last, with this reply and end
+abbrev pub answered : RankValue → ClientRequest → Reply → Option ℕ → RankValue
+answered v r x ends = record v { chronicle = v.chronicle ++ record { request = r; reply = x; ends_at = ends } ∷ [] }
 
-abbrev pub with_event : RankValue → ClientRequest → Decision → List ℕ → RankValue
-with_event v r d payload = record v {
-  log = with_entry v.log payload;
-  tree = state_after v.tree r d;
-  root_version = version_after v.root_version d;
-  waiting = v.waiting ++ record { client = r.client; tid = r.tid; ends = entry_end v.log payload } ∷ [];
-  asked = v.asked + 1;
+-- The journal has the event's entry, behind a map where one was due, and the cells are as after its writes.
+abbrev pub with_event : RankValue → Event → RankValue
+with_event v e = record v {
+  log = log_behind (map_in v) v.log (event_bytes e);
+  cache = projected (writes_of e) (event_end v e) v.cache;
+  segment = Some (events_after v.segment);
 }
 
-abbrev pub with_answer : RankValue → ClientRequest → Decision → Option Event → RankValue
-with_answer v r d None = asked_once_more v
-with_answer v r d (Some e) = with_event v r d (event_bytes e)
+abbrev pub journalled : RankValue → Option Event → RankValue
+journalled v None = v
+journalled v (Some e) = with_event v e
 
--- The journal has one entry more where the request has an event, and is else as before. The tree is the one after the request.
+-- Where the request has an event the journal has it and the cells are as after it. The chronicle has the request with its reply.
 abbrev pub after_request : RankValue → ClientRequest → RankValue
-after_request v r = with_answer v r (decided v r) (event_in v r)
+after_request v r = answered (journalled v (event_in v r)) r (reply_in v r) (end_in v r)
+
+-- ---- an event that is journalled
+
+-- These are the entries of the event, for which there is room. The event ends here, and with its writes the cells have a tree.
+pub record JournalsEvent {S : Type 0} (k : Rank S) (entries : Entries) (e : Event) (ends : ℕ) : Type 0 where
+  pub map : map_of entries.map ≡ map_in (value_of k)
+  pub event : entries.event.items ≡ event_bytes e
+  pub fits : event_refusal (map_in (value_of k)) k.log (event_bytes e) ≡ None
+  pub room : map_length (map_in (value_of k)) + entry_length (event_bytes e) ≤ k.log.room
+  pub end : ends ≡ event_end (value_of k) e
+  pub grammar : IsEvent e
+  pub undamaged : own_damage k.cache.rank (overlay (early_table k.cache) (writes_of e)) ≡ None

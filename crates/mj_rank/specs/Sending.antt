@@ -1,5 +1,5 @@
 -- What a rank's flush and reap do to it and to its store.
-use Rattle.std.specs.Prelude.{◌≡◌, ℕ, true, nat_lt, List, filter, Option, None, Some}
+use Rattle.std.specs.Prelude.{◌≡◌, ℕ, true, Option, None, Some}
 use Rattle.mj_store.specs.declared.answer.Ack.{Ack}
 use Rattle.mj_store.specs.State.{StoreState}
 use Rattle.mj_store.specs.Moves.{Submits}
@@ -7,7 +7,7 @@ use Rattle.mj_rank.specs.declared.answers.Span.{Span}
 use Rattle.mj_rank.specs.declared.answers.Reaped.{Reaped}
 use Rattle.mj_rank.specs.declared.answers.Reaped.TheVariants.{One, Nothing}
 use Rattle.mj_rank.specs.declared.rank.Rank.{Rank}
-use Rattle.mj_rank.specs.declared.waiting.Waiting.{Waiting}
+use Rattle.mj_cache.specs.Cached.{made_safe}
 use Rattle.mj_journaler.specs.Journal.{Journal}
 use Rattle.mj_journaler.specs.Calls.{flush_of, offer_op, taken, acknowledged}
 use Rattle.mj_journaler.specs.declared.sent.Offer.{Offer}
@@ -35,12 +35,9 @@ abbrev pub ack_of : Reaped → Option Ack
 ack_of (One op from to) = Some (record { op = op; done = true })
 ack_of Nothing = None
 
--- whose events are not safe
-abbrev pub unsafe_only : ℕ → List Waiting → List Waiting
-unsafe_only safe ws = filter (λ (w : Waiting). nat_lt safe w.ends) ws
-
+-- the cells of what ends at or below the safe position are safe
 abbrev pub after_ack : ℕ → RankValue → RankValue
-after_ack op v = record v { log = acknowledged op v.log; waiting = unsafe_only (acknowledged op v.log).safe v.waiting }
+after_ack op v = record v { log = acknowledged op v.log; cache = made_safe (acknowledged op v.log).safe v.cache }
 
 -- the safe position is told before and after
 abbrev pub Acknowledges : {S : Type 0} → Reaped → Rank S → Rank S → Type 0

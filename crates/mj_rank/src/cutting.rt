@@ -8,9 +8,8 @@ ghost use Rattle.mj_store.specs.Object.{HasShortKeys};
 ghost use Rattle.mj_layout.specs.Placing.{set_of};
 ghost use Rattle.mj_recovery.specs.Orderly.{window_end};
 
-use crate::found::journal_object;
 use mj_base::{ObjectName, OpNo, RankNo};
-use mj_layout::Layout;
+use mj_layout::{Layout, journal_object};
 use mj_store::{ObjectAct, ObjectOp, ObjectStore, StoreFault};
 use std::alloc::{AllocError, Global};
 

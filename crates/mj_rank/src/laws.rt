@@ -2,7 +2,7 @@
 
 ghost use Rattle.std.specs.Prelude.{ℕ};
 ghost use Rattle.mj_store.specs.State.{StoreState};
-ghost use Rattle.mj_tree.specs.State.{PlainState, new_state};
+ghost use Rattle.mj_tree.specs.State.{new_state};
 ghost use Rattle.mj_machine.specs.Machine.{LogMachine};
 ghost use Rattle.mj_journaler.specs.Journal.{Journal};
 ghost use Rattle.mj_journaler.specs.Keeps.{MaySend};
@@ -19,19 +19,22 @@ ghost use Rattle.mj_recovery.specs.Formatted.{formatted_objects};
 ghost use Rattle.mj_store.specs.State.{Quiet, IsImage, contents, submitted, tried, failed, reported, at_rest};
 ghost use Rattle.mj_store.specs.declared.answer.Ack.{Ack};
 ghost use Rattle.mj_tree.specs.declared.request.ClientRequest.{ClientRequest};
-ghost use Rattle.mj_tree.specs.declared.change.Decision.{Decision};
-ghost use Rattle.mj_tree.specs.Answer.{decision, state_after, is_change};
+ghost use Rattle.mj_tree.specs.Answer.{changes};
+ghost use Rattle.mj_entry.specs.Entry.{IsPayload};
+ghost use Rattle.mj_cells.specs.Table.{Table, overlay};
+ghost use Rattle.mj_recovery.specs.Tree.{tree_of};
 ghost use Rattle.mj_event.specs.declared.Event.{Event};
 ghost use Rattle.mj_event.specs.Event.{event_bytes};
-ghost use Rattle.mj_machine.specs.Machine.{opened, accepted, made_safe};
-ghost use Rattle.mj_delta.specs.Fits.{IsSent};
+ghost use Rattle.mj_event.specs.Writes.{writes_of};
+ghost use Rattle.mj_machine.specs.Machine.{opened, accepted, made_safe, early_state};
+ghost use Rattle.mj_delta.specs.Steps.{GivesTree};
 ghost use Rattle.mj_rank.specs.Log.{entry_end, with_entry};
-ghost use Rattle.mj_rank.specs.Journaled.{IsServedRequest, IsWritable, event_of, version_after};
+ghost use Rattle.mj_rank.specs.Mount.{subtree_map};
 
 /// Every image that a store may hold recovers to the machine's state after a front of its requests that has all safe ones.
 pub fn each_image_is_a_front()
-    ensures serving { (rank : ℕ) (l : Journal) (tree : PlainState) (version : ℕ) (m : LogMachine) (s : StoreState) →
-        Lives rank l tree version m s → LeavesFronts rank m s }
+    ensures serving { (rank : ℕ) (l : Journal) (cells : Table) (m : LogMachine) (s : StoreState) →
+        Lives rank l cells m s → LeavesFronts rank m s }
     ensures stopped { (rank : ℕ) (m : LogMachine) (s : StoreState) → Rested rank m s → LeavesFronts rank m s }
     ensures mounting { (v : MountValue) (m : LogMachine) (s : StoreState) →
         Mounted v m s → LeavesFronts v.number m s }
@@ -65,25 +68,27 @@ pub fn a_stopped_store_stays()
 /// The facts hold after each event of the store, after a write is sent, and after one is acknowledged, when the machine makes
 /// safe what ends at or below the log's safe position.
 pub fn a_rank_lives_on()
-    ensures tried { (rank : ℕ) (l : Journal) (tree : PlainState) (version : ℕ) (m : LogMachine) (s : StoreState) (name : ObjectName) →
-        Lives rank l tree version m s → Lives rank l tree version m (tried name s) }
-    ensures not_done { (rank : ℕ) (l : Journal) (tree : PlainState) (version : ℕ) (m : LogMachine) (s : StoreState) (name : ObjectName) →
-        Lives rank l tree version m s → Lives rank l tree version m (failed name s) }
-    ensures told { (rank : ℕ) (l : Journal) (tree : PlainState) (version : ℕ) (m : LogMachine) (s : StoreState) →
-        Lives rank l tree version m s → Lives rank l tree version m (reported s) }
-    ensures write { (rank : ℕ) (l : Journal) (tree : PlainState) (version : ℕ) (m : LogMachine) (s : StoreState) (op to : ℕ) → s.next ≤ op →
-        MaySend l (Some (Flush to)) → Lives rank l tree version m s → Lives rank (taken op (Flush to) l) tree version m (submitted (offer_op l (Flush to)) op s) }
-    ensures write_done { (rank : ℕ) (l : Journal) (tree : PlainState) (version : ℕ) (m : LogMachine) (s : StoreState) (a : Ack) →
-        s.completed ≡ a ∷ drop 1 s.completed → a.done ≡ true → Lives rank l tree version m s →
-        Lives rank (acknowledged a.op l) tree version (made_safe m (acknowledged a.op l).safe) (reported s) }
+    ensures tried { (rank : ℕ) (l : Journal) (cells : Table) (m : LogMachine) (s : StoreState) (name : ObjectName) →
+        Lives rank l cells m s → Lives rank l cells m (tried name s) }
+    ensures not_done { (rank : ℕ) (l : Journal) (cells : Table) (m : LogMachine) (s : StoreState) (name : ObjectName) →
+        Lives rank l cells m s → Lives rank l cells m (failed name s) }
+    ensures told { (rank : ℕ) (l : Journal) (cells : Table) (m : LogMachine) (s : StoreState) →
+        Lives rank l cells m s → Lives rank l cells m (reported s) }
+    ensures write { (rank : ℕ) (l : Journal) (cells : Table) (m : LogMachine) (s : StoreState) (op to : ℕ) → s.next ≤ op →
+        MaySend l (Some (Flush to)) → Lives rank l cells m s → Lives rank (taken op (Flush to) l) cells m (submitted (offer_op l (Flush to)) op s) }
+    ensures write_done { (rank : ℕ) (l : Journal) (cells : Table) (m : LogMachine) (s : StoreState) (a : Ack) →
+        s.completed ≡ a ∷ drop 1 s.completed → a.done ≡ true → Lives rank l cells m s →
+        Lives rank (acknowledged a.op l) cells (made_safe m (acknowledged a.op l).safe) (reported s) }
 {}
 
-/// They hold after a request, which the machine accepts with the end of its entry.
+/// They hold after a request, which the machine accepts with the end of its entry, and after a map that begins a segment.
 pub fn a_rank_answers()
-    ensures same { (rank : ℕ) (l : Journal) (tree : PlainState) (version : ℕ) (m : LogMachine) (s : StoreState) (r : ClientRequest) (ends : ℕ) →
-        is_change (decision tree r) ≡ false → Lives rank l tree version m s → Lives rank l tree version (accepted m r ends) s }
-    ensures changed { (rank : ℕ) (l : Journal) (tree : PlainState) (version : ℕ) (m : LogMachine) (s : StoreState) (r : ClientRequest) (e : Event) (d : Decision) →
-        Lives rank l tree version m s → decision tree r ≡ d → event_of version tree r d ≡ Some e → IsSent r → IsServedRequest r → IsWritable e →
-        entry_end l (event_bytes e) < 2 ^ 62 → is_change d ≡ true →
-        Lives rank (with_entry l (event_bytes e)) (state_after tree r d) (version_after version d) (accepted m r (entry_end l (event_bytes e))) s }
+    ensures same { (rank : ℕ) (l : Journal) (cells : Table) (m : LogMachine) (s : StoreState) (r : ClientRequest) (ends : ℕ) →
+        changes (tree_of rank cells) r ≡ false → Lives rank l cells m s → Lives rank l cells (accepted m r ends) s }
+    ensures changed { (rank : ℕ) (l : Journal) (cells : Table) (m : LogMachine) (s : StoreState) (r : ClientRequest) (e : Event) →
+        Lives rank l cells m s → changes (tree_of rank cells) r ≡ true → GivesTree rank cells (tree_of rank cells) r e → IsPayload (event_bytes e) → entry_end l (event_bytes e) < 2 ^ 62 →
+        Lives rank (with_entry l (event_bytes e)) (overlay cells (writes_of e)) (accepted m r (entry_end l (event_bytes e))) s }
+    ensures segment { (rank : ℕ) (l : Journal) (cells : Table) (m : LogMachine) (s : StoreState) →
+        Lives rank l cells m s → entry_end l (event_bytes (subtree_map rank)) < 2 ^ 62 → Lives rank (with_entry l (event_bytes (subtree_map rank))) cells m s }
+    ensures tree { (rank : ℕ) (l : Journal) (cells : Table) (m : LogMachine) (s : StoreState) → Lives rank l cells m s → tree_of rank cells ≡ early_state m }
 {}

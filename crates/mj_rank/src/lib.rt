@@ -2,10 +2,9 @@
 #![tactic(auto)]
 
 mod answers;
-mod conditions;
 mod cutting;
-mod event;
-mod first_path;
+mod entries;
+mod finding;
 mod found;
 mod laws;
 mod mounting;
@@ -13,7 +12,6 @@ mod rank;
 mod refusal;
 #[cfg(test)]
 mod tests;
-mod waiting;
 
 pub use answers::{Early, Fault, MountStep, Reaped, Span};
 pub use laws::{

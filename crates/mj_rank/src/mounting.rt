@@ -8,12 +8,12 @@ ghost use Rattle.mj_rank.specs.Refusals.{IsStoreFault};
 
 use crate::answers::MountStep;
 use crate::cutting::{Cuts, look};
-use crate::first_path::read_found;
-use crate::found::{FirstLog, Found, journal_object};
+use crate::finding::read_found;
+use crate::found::{FirstLog, Found};
 use crate::rank::Rank;
 use crate::refusal::MountRefusal;
 use mj_base::{Items, ObjectName, OpNo, RankNo};
-use mj_layout::{Header, Phase};
+use mj_layout::{Header, Phase, journal_object};
 use mj_store::{Ack, ObjectAct, ObjectOp, ObjectStore, StoreFault};
 use std::alloc::Global;
 
@@ -44,12 +44,13 @@ pub struct Mounting<S> {
     sent: OpNo,
     cuts: Cuts,
     fault: Option<StoreFault>,
+    ghost cells: { found.cache.rank ≡ number },
 }
 
 impl<S: ObjectStore> Mounting<S> {
-    ghost use Rattle.mj_store.specs.State.{StoreState};
+    ghost use Rattle.mj_store.specs.State.{StoreState, contents};
     ghost use Rattle.mj_store.specs.Moves.{Still, Steps, Stays, Restarts};
-    ghost use Rattle.mj_rank.specs.FirstPath.{IsNoOther, first_path_in};
+    ghost use Rattle.mj_rank.specs.Finding.{found_in};
     ghost use Rattle.mj_rank.specs.Cutting.{IsTruncation};
     ghost use Rattle.mj_rank.specs.Mounts.{Begins, BeginsAs, KeepsFound, MountSteps, SendsAt, SendsTruncation, IsUnmoved, HasLooked, AwaitsAt, AwaitsSent, mount_value, first_value, oldest_of, phase_at, next_stage, acked_stage, acked_out};
     ghost use Rattle.mj_rank.specs.Flight.{HasCompleted};
@@ -70,8 +71,7 @@ impl<S: ObjectStore> Mounting<S> {
         ensures same_list { IfErr result (λ e. S.unreported e.0 ≡ S.unreported store) }
         ensures later { IfErr result (λ e. S.faults store ≤ S.faults e.0) }
         ensures cause { IfErr result (λ e. IsStoreFault e.1 → Rose (S.faults store) (S.faults e.0)) }
-        ensures told { (s : StoreState) → S.state store ≡ Some s → Still s → BeginsAs result (first_path_in number s) }
-        ensures unbuilt { IfErr result (λ e. IsNoOther e.1) }
+        ensures told { (s : StoreState) → S.state store ≡ Some s → Still s → BeginsAs result (found_in number (contents s)) }
         ensures begins { IfOk result (Begins number) }
         ensures stays { IfOk result (λ k. Stays (S.state store) (S.state k.store)) }
         ensures told_refused { IfErr result (λ e. Stays (S.state store) (S.state e.0)) }
@@ -168,22 +168,13 @@ impl<S: ObjectStore> Mounting<S> {
             cuts: _,
             fault: _,
         } = self;
-        let FirstLog { journal } = log;
+        let FirstLog { journal, segment } = log;
         let Found {
             header: _,
             tail: _,
-            tree,
-            root_version,
+            cache,
         } = found;
-        Rank::serving(
-            alloc,
-            store,
-            number,
-            header.epoch,
-            journal,
-            tree,
-            root_version,
-        )
+        Rank::serving(alloc, store, number, header.epoch, journal, cache, segment)
     }
 
     /// Gives the store back as it is.

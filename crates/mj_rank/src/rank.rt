@@ -1,59 +1,66 @@
 //! A rank that serves.
 
-ghost use Rattle.std.specs.Prelude.{◌≡◌, ◌≤◌, ℕ, [], Some, None, IfOk, IfErr, IfSome, OnOk, OnErr, IsTrue};
+ghost use Rattle.std.specs.Prelude.{◌≡◌, ◌≤◌, ◌+◌, ℕ, [], Some, None, IfOk, IfErr, IfSome, OnOk, OnErr, IsTrue};
+ghost use Rattle.std.proofs.Props.{props};
 ghost use Rattle.mj_base.specs.Counts.{Rose};
-ghost use Rattle.mj_tree.specs.Meaning.{state_of};
-ghost use Rattle.mj_rank.specs.Sound.{is_sound};
+ghost use Rattle.mj_tables.specs.Layered.{EndBelow};
+ghost use Rattle.mj_journaler.specs.Journal.{end_of};
 
 use crate::answers::{Early, Fault, Reaped, Span};
-use crate::event::{event_of, known, version_after};
+use crate::entries::{Entries, events_after};
 use crate::refusal::{RankRefusal, Sealed};
-use crate::waiting::{Waiting, add, forget_safe, last_of};
-use mj_base::{ClientId, ObjectName, OpNo, RankNo, Tid};
-use mj_entry::ENVELOPE;
-use mj_event::{Event, event_write};
+use mj_base::{ObjectName, OpNo, RankNo};
+use mj_cache::Cache;
+use mj_chronicle::Chronicle;
+use mj_event::{Event, writes};
 use mj_journaler::{Acked, Journaler};
+use mj_machine::ChronicleEntry;
+use mj_plan::{Planned, a_plan_is_projected, plan};
 use mj_store::{Ack, ObjectStore, StoreFault, SubmitRefusal};
-use mj_tree::{ClientRequest, Decision, PlainTree, Reply};
+use mj_tree::{ClientRequest, Reply};
 use std::alloc::{AllocError, Global};
 
-/// The most requests of one mount.
-pub const MOST_REQUESTS: u64 = 1_048_576;
-
-/// The log of one rank over a store, and the tree of all requests that it accepted.
+/// The log of one rank over a store, and the cells of all requests that it accepted.
 pub struct Rank<S> {
     store: S,
     number: RankNo,
     epoch: u64,
     log: Journaler,
-    tree: PlainTree,
-    /// The version of the root's head.
-    root_version: u64,
-    /// The requests of this mount that have an event which may not be safe, in the order of their events.
-    waiting: Vec<Waiting>,
-    /// How many requests this mount answered.
-    asked: u64,
+    cache: Cache,
+    /// What this mount answered.
+    chronicle: Chronicle,
+    /// How many events the current segment has, its map not counted. None has begun where its map did not fit.
+    segment: Option<u64>,
     fault: Option<Fault>,
-    ghost sound: { IsTrue (is_sound (state_of tree)) },
+    ghost cells: { cache.rank ≡ number },
+    ghost ended: { EndBelow (end_of log + 1) cache.groups } by { Prim.hlevel props },
 }
 
 impl<S: ObjectStore> Rank<S> {
     ghost use Rattle.mj_rank.specs.Since.{RankSince};
     ghost use Rattle.mj_rank.specs.Refusals.{IsDown, IsDownFor, IsDownWith, SaysOfAppend};
-    ghost use Rattle.mj_rank.specs.Request.{value_of, early_of, after_request, cause_of, Says, most_requests, kept_end, asked_once_more, with_event};
+    ghost use Rattle.mj_rank.specs.Request.{value_of, early_of, after_request, cause_of, Says, kept_end, map_in, with_event, event_end, answered, JournalsEvent};
+    ghost use Rattle.mj_rank.specs.Segment.{event_refusal};
     ghost use Rattle.mj_rank.specs.Sending.{Flushes, Acknowledges, ack_of, with_log};
     ghost use Rattle.mj_store.specs.Moves.{Reaps, Stays, Steps, Restarts};
-    ghost use Rattle.mj_rank.specs.Waiting.{waiting_end, unsafe_end};
     ghost use Rattle.mj_journaler.specs.Journal.{IsNew, unsafe_of};
-    ghost use Rattle.mj_journaler.specs.Calls.{append_refusal, oldest_sent, sent_on};
-    ghost use Rattle.mj_rank.specs.Log.{log_value, entry_end};
-    ghost use Rattle.mj_rank.specs.Journaled.{IsServedRequest, IsWritable};
-    ghost use Rattle.mj_tree.specs.Answer.{decision, reply_of};
+    ghost use Rattle.mj_journaler.specs.Calls.{oldest_sent, sent_on};
+    ghost use Rattle.mj_journaler.specs.Keeps.{MaySend};
+    ghost use Rattle.mj_rank.specs.Log.{log_value};
+    ghost use Rattle.mj_tree.specs.Request.{IsRequest};
+    ghost use Rattle.mj_tree.specs.Answer.{changes};
     ghost use Rattle.mj_tree.specs.Listing.{listing};
     ghost use Rattle.mj_event.specs.Event.{event_bytes};
-    ghost use Rattle.std.specs.Prelude.{◌+◌, ◌<◌, IsSome};
-    ghost use Rattle.std.specs.Option.{option_and_then, option_copied};
-    ghost use Rattle.mj_machine.specs.Machine.{LogMachine, reply_to};
+    ghost use Rattle.mj_event.specs.Writes.{writes_of};
+    ghost use Rattle.mj_entry.specs.Entry.{IsPayload};
+    ghost use Rattle.mj_cache.specs.Cached.{CacheValue, early_table, early_tree};
+    ghost use Rattle.mj_chronicle.specs.Room.{has_room};
+    ghost use Rattle.mj_machine.specs.declared.kept.ChronicleEntry.{ChronicleEntry};
+    ghost use Rattle.mj_delta.specs.Steps.{GivesTree};
+    ghost use Rattle.std.specs.Prelude.{IsSome, true, unwrap_or, length};
+    ghost use Rattle.mj_rank.specs.declared.refusal.RankRefusal.{RankRefusal};
+    ghost use Rattle.std.specs.Option.{option_copied};
+    ghost use Rattle.mj_machine.specs.Machine.{LogMachine, early_state, reply_to};
     ghost use Rattle.mj_rank.specs.Live.{RankLives, StopLives, StopsSafely, after_early, after_reap};
 
     pub(crate) fn serving(
@@ -62,31 +69,31 @@ impl<S: ObjectStore> Rank<S> {
         number: RankNo,
         epoch: u64,
         log: Journaler,
-        tree: PlainTree,
-        root_version: u64,
+        cache: Cache,
+        segment: Option<u64>,
     ) -> Rank<S>
-        requires { IsTrue (is_sound (state_of tree)) }
+        requires cells { cache.rank ≡ number }
+        requires safe { cache.groups ≡ [] }
         ensures store { result.store ≡ store }
         ensures fault { result.fault ≡ None }
-        ensures value { value_of result ≡ record { number = number; epoch = epoch; log = log_value log; tree = state_of tree; root_version = root_version; waiting = []; asked = 0; fault = None } }
+        ensures value { value_of result ≡ record { number = number; epoch = epoch; log = log_value log; cache = cache; chronicle = []; segment = segment; fault = None } }
     {
         Rank {
             store,
             number,
             epoch,
             log,
-            tree,
-            root_version,
-            waiting: Vec::new(alloc),
-            asked: 0,
+            cache,
+            chronicle: Chronicle::new(alloc),
+            segment,
             fault: None,
         }
     }
 
-    /// Answers a request by the tree of all that were accepted, and journals the event of one that changes it. The store is
-    /// not called. A refusal leaves the rank as it was.
+    /// Answers a request by the tree of all that were accepted, and journals the event of one that changes it, behind a subtree map
+    /// where the segment is full. The store is not called. A refusal leaves the rank as it was.
     pub fn request(&mut self, alloc: Global, r: &ClientRequest) -> Result<Early, RankRefusal>
-        requires { IsServedRequest r.now }
+        requires { IsRequest r.now }
         ensures early { IfOk result (λ early. early ≡ early_of (value_of self.old) r.entry.now) }
         ensures after { OnOk result (value_of self.new ≡ after_request (value_of self.old) r.entry.now) }
         ensures admitted { OnOk result (cause_of (value_of self.old) r.entry.now ≡ None) }
@@ -97,16 +104,17 @@ impl<S: ObjectStore> Rank<S> {
         ensures live { IfOk result (λ early. (m : LogMachine) → RankLives S.state self.old m → RankLives S.state self.new (after_early m r.entry.now early)) }
         ensures live_refused { OnErr result ((m : LogMachine) → RankLives S.state self.old m → RankLives S.state self.new m) }
         ensures reply { IfOk result (λ early. (m : LogMachine) → RankLives S.state self.old m → early.reply ≡ reply_to m r.entry.now) }
+        ensures ends { IfOk result (λ early. (m : LogMachine) → RankLives S.state self.old m → IsTrue (changes (early_state m) r.entry.now) → IsSome early.ends_at) }
     {
-        known(r);
         self.up()?;
-        if self.asked >= MOST_REQUESTS {
-            return Err(RankRefusal::MountSpent(self.asked, Sealed::new()));
+        let Planned { reply, event } = plan(alloc, &self.cache, r)?;
+        if !self.chronicle.has_room(r, &reply) {
+            let answered = self.chronicle.len();
+            return Err(RankRefusal::MountSpent(answered, Sealed::new()));
         }
-        let outcome = self.tree.decide(alloc, r)?;
-        match event_of(alloc, r, &self.tree, self.root_version, &outcome)? {
-            None => Ok(self.answered(r, outcome)),
-            Some(event) => self.accepted(alloc, r, &outcome, &event),
+        match event {
+            None => self.answered(alloc, r, reply),
+            Some(event) => self.accepted(alloc, r, reply, &event),
         }
     }
 
@@ -122,40 +130,38 @@ impl<S: ObjectStore> Rank<S> {
     }
 
     // A request that changes nothing.
-    fn answered(&mut self, r: &ClientRequest, outcome: Decision) -> Early
-        requires asked { self.old.asked < most_requests }
-        ensures reply { result.reply ≡ reply_of outcome }
-        ensures end { result.ends_at ≡ kept_end (value_of self.old) r.entry.now outcome }
-        ensures place { result.place ≡ self.old.asked }
-        ensures after { value_of self.new ≡ asked_once_more (value_of self.old) }
+    fn answered(
+        &mut self,
+        alloc: Global,
+        r: &ClientRequest,
+        reply: Reply,
+    ) -> Result<Early, RankRefusal>
+        requires room { has_room self.old.chronicle r.now reply ≡ true }
+        ensures early { IfOk result (λ early. early ≡ record { reply = reply; ends_at = kept_end (value_of self.old) r.entry.now reply; place = length self.old.chronicle }) }
+        ensures after { OnOk result (value_of self.new ≡ answered (value_of self.old) r.entry.now reply (kept_end (value_of self.old) r.entry.now reply)) }
+        ensures memory { IfErr result (λ e. e ≡ RankRefusal.Memory) }
+        ensures kept { OnErr result (value_of self.new ≡ value_of self.old) }
         ensures store { self.new.store ≡ self.old.store }
-        ensures fault { self.new.fault ≡ self.old.fault }
+        ensures log { self.new.log ≡ self.old.log }
     {
-        let ends_at = self.kept_end(r, &outcome);
-        let place = self.asked;
-        self.asked += 1;
-        Early {
-            reply: outcome.into_reply(),
+        let ends_at = self.kept_end(r, &reply);
+        let place = self.chronicle.len();
+        self.record(alloc, r, &reply, ends_at)?;
+        Ok(Early {
+            reply,
             ends_at,
             place,
-        }
+        })
     }
 
     // Where the event of a kept reply ends, if it is not safe.
-    fn kept_end(&self, r: &ClientRequest, outcome: &Decision) -> Option<u64>
-        ensures { result ≡ kept_end (value_of self.now) r.entry.now outcome.now }
+    fn kept_end(&self, r: &ClientRequest, reply: &Reply) -> Option<u64>
+        ensures { result ≡ kept_end (value_of self.now) r.entry.now reply.now }
     {
-        match outcome {
-            Decision::Answered(Reply::Done { .. }) => self.waiting_end(r.client, r.tid),
-            _ => None,
-        }
-    }
-
-    // Where the last event of a client's request ends, if it is not safe.
-    fn waiting_end(&self, client: ClientId, tid: Tid) -> Option<u64>
-        ensures { result ≡ option_and_then (unsafe_end self.now.log.safe) (waiting_end client tid self.now.waiting.items) }
-    {
-        let ends = last_of(&self.waiting, client, tid)?;
+        let Reply::Done { .. } = reply else {
+            return None;
+        };
+        let ends = self.chronicle.end_of(r.client, r.tid)?;
         if self.log.safe_pos() < ends {
             Some(ends)
         } else {
@@ -163,59 +169,108 @@ impl<S: ObjectStore> Rank<S> {
         }
     }
 
+    // The chronicle gets a request with its reply.
+    fn record(
+        &mut self,
+        alloc: Global,
+        r: &ClientRequest,
+        reply: &Reply,
+        ends_at: Option<u64>,
+    ) -> Result<(), AllocError>
+        requires room { has_room self.old.chronicle r.now reply.now ≡ true }
+        ensures after { OnOk result (value_of self.new ≡ answered (value_of self.old) r.entry.now reply.now ends_at) }
+        ensures kept { OnErr result (value_of self.new ≡ value_of self.old) }
+        ensures store { self.new.store ≡ self.old.store }
+        ensures log { self.new.log ≡ self.old.log }
+    {
+        let entry = ChronicleEntry {
+            request: r.copy(alloc)?,
+            reply: reply.copy(alloc)?,
+            ends_at,
+        };
+        self.chronicle.add(alloc, entry)
+    }
+
     // A request that changes the tree.
     fn accepted(
         &mut self,
         alloc: Global,
         r: &ClientRequest,
-        outcome: &Decision,
+        reply: Reply,
         event: &Event,
     ) -> Result<Early, RankRefusal>
-        requires served { IsServedRequest r.now }
-        requires asked { self.old.asked < most_requests }
-        requires decided { outcome.now ≡ decision (state_of self.old.tree) r.now }
-        requires writable { IsWritable event.now }
-        ensures reply { IfOk result (λ early. early.reply ≡ reply_of outcome.now) }
-        ensures end { IfOk result (λ early. early.ends_at ≡ Some (entry_end self.old.log (event_bytes event.now))) }
-        ensures place { IfOk result (λ early. early.place ≡ self.old.asked) }
-        ensures after { OnOk result (value_of self.new ≡ with_event (value_of self.old) r.entry.now outcome.now (event_bytes event.now)) }
-        ensures admitted { OnOk result (append_refusal self.old.log (event_bytes event.now) ≡ None) }
-        ensures refused { IfErr result (λ e. SaysOfAppend e (append_refusal self.old.log (event_bytes event.now))) }
+        requires room { has_room self.old.chronicle r.now reply ≡ true }
+        requires gives { GivesTree self.old.cache.rank (early_table self.old.cache) (early_tree self.old.cache) r.now event.now }
+        requires fits { IsPayload (event_bytes event.now) }
+        ensures early { IfOk result (λ early. early ≡ record { reply = reply; ends_at = Some (event_end (value_of self.old) event.now); place = length self.old.chronicle }) }
+        ensures after { OnOk result (value_of self.new ≡ answered (with_event (value_of self.old) event.now) r.entry.now reply (Some (event_end (value_of self.old) event.now))) }
+        ensures admitted { OnOk result (event_refusal (map_in (value_of self.old)) (log_value self.old.log) (event_bytes event.now) ≡ None) }
+        ensures refused { IfErr result (λ e. SaysOfAppend e (event_refusal (map_in (value_of self.old)) (log_value self.old.log) (event_bytes event.now))) }
         ensures kept { OnErr result (value_of self.new ≡ value_of self.old) }
         ensures store { self.new.store ≡ self.old.store }
-        ensures fault { self.new.fault ≡ self.old.fault }
     {
-        let payload = event_write(alloc, event)?;
-        if let Some(refusal) = self.log.refusal(&payload) {
+        let entries = Entries::new(alloc, self.number, self.segment, event)?;
+        if let Some(refusal) = entries.refusal(&self.log) {
             return Err(RankRefusal::of_append(refusal));
         }
-        self.log.reserve(alloc, payload.len() + ENVELOPE)?;
-        self.waiting.reserve(1)?;
-        let reply = self.tree.apply(alloc, r)?;
-        let ends = self.log.append(alloc, &payload).unwrap();
-        add(
-            &mut self.waiting,
-            Waiting {
-                client: r.client,
-                tid: r.tid,
-                ends,
-            },
-        );
-        self.root_version = version_after(self.root_version, outcome);
-        let place = self.asked;
-        self.asked += 1;
-        Ok(Early {
-            reply,
-            ends_at: Some(ends),
-            place,
-        })
+        let ends = entries.end_behind(&self.log);
+        let place = self.chronicle.len();
+        a_plan_is_projected();
+        self.log.reserve(alloc, entries.bytes())?;
+        self.record(alloc, r, &reply, Some(ends))?;
+        match self.journal(alloc, event, &entries, ends) {
+            Ok(()) => Ok(Early {
+                reply,
+                ends_at: Some(ends),
+                place,
+            }),
+            Err(_) => {
+                self.chronicle.drop_last();
+                Err(RankRefusal::Memory)
+            }
+        }
+    }
+
+    // The journal gets these entries of an event, for which there is room, and the cells its writes.
+    fn journal(
+        &mut self,
+        alloc: Global,
+        event: &Event,
+        entries: &Entries,
+        ends: u64,
+    ) -> Result<(), AllocError>
+        requires { JournalsEvent self.old entries.now event.now ends }
+        ensures after { OnOk result (value_of self.new ≡ with_event (value_of self.old) event.now) }
+        ensures kept { OnErr result (value_of self.new ≡ value_of self.old) }
+        ensures store { self.new.store ≡ self.old.store }
+    {
+        let writes = writes(alloc, event)?;
+        self.cache.project(alloc, writes, ends)?;
+        entries.append(alloc, &mut self.log);
+        self.segment = Some(events_after(self.segment));
+        Ok(())
     }
 
     /// The tree of all accepted requests as text.
     pub fn listing(&self, alloc: Global, full: bool) -> Result<Vec<u8>, AllocError>
-        ensures { IfOk result (λ text. text.items ≡ listing (state_of self.now.tree) full) }
+        ensures is { IfOk result (λ text. text.items ≡ listing (early_tree self.now.cache) full) }
+        ensures live { IfOk result (λ text. (m : LogMachine) → RankLives S.state self.now m → text.items ≡ listing (early_state m) full) }
     {
-        self.tree.listing(alloc, full)
+        self.cache.listing(alloc, full)
+    }
+
+    /// What this mount answered, in order.
+    pub fn chronicle(&self) -> &[ChronicleEntry]
+        ensures { result.now ≡ self.now.chronicle }
+    {
+        self.chronicle.entries()
+    }
+
+    /// How many events the current segment has, its map not counted.
+    pub fn segment_events(&self) -> u64
+        ensures { result ≡ unwrap_or self.now.segment 0 }
+    {
+        self.segment.unwrap_or(0)
     }
 
     /// Sends what is appended and not sent yet, as far as one write goes.
@@ -247,6 +302,7 @@ impl<S: ObjectStore> Rank<S> {
     // The write that was given is sent. A store that gives a number which is not new is not used any more.
     fn is_sent(&mut self, number: OpNo) -> Result<(), RankRefusal>
         requires given { IsSome self.old.log.offer }
+        requires may { MaySend self.old.log self.old.log.offer }
         requires up { self.old.fault ≡ None }
         ensures store { self.new.store ≡ self.old.store }
         ensures sent { OnOk result (value_of self.new ≡ with_log (value_of self.old) (log_value (sent_on number self.old.log.offer self.old.log))) }
@@ -284,7 +340,7 @@ impl<S: ObjectStore> Rank<S> {
                     return Err(self.goes_down(Some(op), StoreFault { faults }));
                 }
                 let Acked { from, to } = self.log.acked(op);
-                forget_safe(&mut self.waiting, to);
+                self.cache.make_safe(to);
                 Ok(Reaped::One {
                     op,
                     safe_from: from,
@@ -374,10 +430,9 @@ impl<S: ObjectStore> Rank<S> {
             number: _,
             epoch: _,
             log: _,
-            tree: _,
-            root_version: _,
-            waiting: _,
-            asked: _,
+            cache: _,
+            chronicle: _,
+            segment: _,
             fault: _,
         } = self;
         store

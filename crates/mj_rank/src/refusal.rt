@@ -6,6 +6,7 @@ ghost use Rattle.mj_rank.specs.Refusals.{IsDown, SaysOfAppend};
 use crate::answers::Fault;
 use mj_base::Damage;
 use mj_journaler::AppendRefusal;
+use mj_replay::JournalRefusal;
 use mj_store::{ReadRefusal, StoreFault, SubmitRefusal};
 use std::alloc::AllocError;
 
@@ -104,6 +105,20 @@ impl From<ReadRefusal> for MountRefusal {
         match e {
             ReadRefusal::Failed(fault) => MountRefusal::Store(fault),
             ReadRefusal::Memory => MountRefusal::Memory,
+        }
+    }
+}
+
+impl From<JournalRefusal> for MountRefusal {
+    ghost use Rattle.mj_rank.specs.Refusals.{of_journal};
+
+    ghost from_gives = { λ e r. r ≡ of_journal e };
+
+    fn from(e: JournalRefusal) -> Self {
+        match e {
+            JournalRefusal::Damage(damage) => MountRefusal::Damage(damage),
+            JournalRefusal::Store(fault) => MountRefusal::Store(fault),
+            JournalRefusal::Memory => MountRefusal::Memory,
         }
     }
 }

@@ -1,6 +1,5 @@
 pub mod Numbers
 pub mod Stays
-pub mod Replies
 pub mod Between
 pub mod Refused
 pub mod Carried

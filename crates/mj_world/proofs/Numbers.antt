@@ -1,7 +1,6 @@
 -- The number of a mount and of a rank, which no call changes.
 use Rattle.std.proofs.Common.{◌≡◌, Option, Some, None, refl, ap, ◌∙◌}
 use Rattle.mj_event.specs.declared.Event.{Event}
-use Rattle.mj_tree.specs.declared.change.Decision.{Decision}
 use Rattle.mj_tree.specs.declared.request.ClientRequest.{ClientRequest}
 use Rattle.mj_store.specs.State.{StoreState}
 use Rattle.mj_rank.specs.declared.answers.Reaped.{Reaped}
@@ -10,23 +9,23 @@ use Rattle.mj_rank.specs.declared.answers.Span.{Span}
 use Rattle.mj_rank.specs.declared.mounting.Mounting.{Mounting}
 use Rattle.mj_rank.specs.declared.rank.Rank.{Rank}
 use Rattle.mj_rank.specs.Mounts.{KeepsFound, first_value}
-use Rattle.mj_rank.specs.Request.{RankValue, value_of, decided, event_in, with_answer, after_request}
+use Rattle.mj_rank.specs.Request.{RankValue, value_of, event_in, journalled, after_request}
 use Rattle.mj_rank.specs.Sending.{Sends, Flushes, Acknowledges}
 use Rattle.mj_journaler.specs.Calls.{flush_of}
 use Rattle.mj_journaler.specs.declared.sent.Offer.{Offer}
 
 -- ---- of a rank
 
-of_answer : (v : RankValue) (r : ClientRequest) (d : Decision) (o : Option Event) → (with_answer v r d o).number ≡ v.number
-of_answer v r d None = refl
-of_answer v r d (Some e) = refl
+of_event : (v : RankValue) (o : Option Event) → (journalled v o).number ≡ v.number
+of_event v None = refl
+of_event v (Some e) = refl
 
 -- equal values have the same number
 pub number_is : {S : Type 0} (old new : Rank S) (v : RankValue) → value_of new ≡ v → v.number ≡ old.number → new.number ≡ old.number
 number_is old new v e h = ap (λ (x : RankValue). x.number) e ∙ h
 
 pub number_after : {S : Type 0} (old new : Rank S) (r : ClientRequest) → value_of new ≡ after_request (value_of old) r → new.number ≡ old.number
-number_after old new r e = number_is old new (after_request (value_of old) r) e (of_answer (value_of old) r (decided (value_of old) r) (event_in (value_of old) r))
+number_after old new r e = number_is old new (after_request (value_of old) r) e (of_event (value_of old) (event_in (value_of old) r))
 
 sent_number : {S : Type 0} (state : S → Option StoreState) (write : Option Offer) (old new : Rank S) → Sends state write old new → new.number ≡ old.number
 sent_number state None old new h = ap (λ (x : RankValue). x.number) h.0

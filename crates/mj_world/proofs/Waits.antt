@@ -59,7 +59,8 @@ module _ {S : Type 0} (state : S → Option StoreState) where
   tried_by name k (phase.Mounting l) (said.Begun tail) t = absurd t
   tried_by name k (phase.Mounting l) (said.Carried s) t = absurd t
   tried_by name k (phase.Mounting l) said.Restarted t = absurd t
-  tried_by name k (phase.Mounting l) (said.Listing text) t = absurd t
+  tried_by name k (phase.Mounting l) (said.Tree text) t = absurd t
+  tried_by name k (phase.Mounting l) (said.State text) t = absurd t
   tried_by name k (phase.Stopped s) answer t = absurd t
   tried_by name k (phase.Serving r) answer t = absurd t
   tried_by name k phase.Gone answer t = absurd t

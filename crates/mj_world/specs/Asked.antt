@@ -1,12 +1,12 @@
--- What a request and the tree are answered, and what they leave of the rank.
-use Rattle.std.specs.Prelude.{◌≡◌, false, None, Result, Ok, Err}
+-- What a request, the tree and the state are answered, and what they leave of the rank.
+use Rattle.std.specs.Prelude.{◌≡◌, false, true, None, Result, Ok, Err}
 use Rattle.mj_tree.specs.declared.request.ClientRequest.{ClientRequest}
 use Rattle.mj_tree.specs.Listing.{listing}
-use Rattle.mj_tree.specs.Meaning.{state_of}
+use Rattle.mj_cache.specs.Cached.{early_tree}
 use Rattle.mj_rank.specs.declared.rank.Rank.{Rank}
 use Rattle.mj_rank.specs.Request as request
 use Rattle.mj_world.specs.declared.answers.Said.{Said}
-use Rattle.mj_world.specs.declared.answers.Said.TheVariants.{Asked, Listing}
+use Rattle.mj_world.specs.declared.answers.Said.TheVariants.{Asked, State, Tree}
 use Rattle.mj_world.specs.declared.answers.WorldRefusal.{WorldRefusal}
 use Rattle.mj_world.specs.declared.answers.WorldRefusal.TheVariants as refusal
 
@@ -26,6 +26,12 @@ Answers r old result new = ⊥
 
 -- the tree of all requests that were accepted
 abbrev pub Lists : {S : Type 0} → Rank S → Result Said WorldRefusal → Rank S → Type 0
-Lists old (Ok (Listing text)) new = (text ≡ listing (state_of old.tree) false) × (new ≡ old)
+Lists old (Ok (Tree text)) new = (text ≡ listing (early_tree old.cache) false) × (new ≡ old)
 Lists old (Err refusal.Memory) new = new ≡ old
 Lists old result new = ⊥
+
+-- the same with the next inode and the sessions
+abbrev pub ListsFully : {S : Type 0} → Rank S → Result Said WorldRefusal → Rank S → Type 0
+ListsFully old (Ok (State text)) new = (text ≡ listing (early_tree old.cache) true) × (new ≡ old)
+ListsFully old (Err refusal.Memory) new = new ≡ old
+ListsFully old result new = ⊥

@@ -1,6 +1,6 @@
 -- What a mount is answered when it begins and when it goes on, and what these do.
 use Rattle.std.specs.Prelude.{◌≡◌, ℕ, Option, None, Some, Result, Ok, Err, OnOk}
-use Rattle.mj_store.specs.State.{StoreState}
+use Rattle.mj_store.specs.State.{StoreState, contents}
 use Rattle.mj_store.specs.Moves.{Stays, Still}
 use Rattle.mj_rank.specs.declared.answers.MountStep.{MountStep}
 use Rattle.mj_rank.specs.declared.answers.MountStep.TheVariants.{Ready}
@@ -9,7 +9,7 @@ use Rattle.mj_rank.specs.declared.mounting.Stage.TheVariants as stage
 use Rattle.mj_rank.specs.declared.rank.Rank.{Rank}
 use Rattle.mj_rank.specs.declared.refusal.MountRefusal.{MountRefusal}
 use Rattle.mj_rank.specs.declared.refusal.MountRefusal.TheVariants as mount_refusal
-use Rattle.mj_rank.specs.FirstPath.{first_path_in, IsFound, IsRefused, IsNoOther}
+use Rattle.mj_rank.specs.Finding.{found_in, IsFound, IsRefused}
 use Rattle.mj_rank.specs.Mounts.{Begins, MountSteps, first_value}
 use Rattle.mj_rank.specs.Request.{value_of}
 use Rattle.mj_world.specs.declared.answers.Said.{Said}
@@ -25,13 +25,12 @@ use Rattle.mj_world.specs.declared.world.Phase.TheVariants as phase
 pub record BeginsOver {S : Type 0} (state : S → Option StoreState) (number : ℕ) (old : S) (tail : ℕ) (new : mounting.Mounting S) : Type 0 where
   pub begins : Begins number new
   pub tail_is : tail ≡ new.found.tail
-  pub found : (s : StoreState) → state old ≡ Some s → Still s → IsFound new.found (first_path_in number s)
+  pub found : (s : StoreState) → state old ≡ Some s → Still s → IsFound new.found (found_in number (contents s))
   pub stays : Stays (state old) (state new.store)
 
 -- It found nothing that can be mounted here, or the store failed.
 pub record FindsNone {S : Type 0} (state : S → Option StoreState) (number : ℕ) (old : S) (e : MountRefusal) (new : S) : Type 0 where
-  pub refused : (s : StoreState) → state old ≡ Some s → Still s → IsRefused e (first_path_in number s)
-  pub unbuilt : IsNoOther e
+  pub refused : (s : StoreState) → state old ≡ Some s → Still s → IsRefused e (found_in number (contents s))
   pub stays : Stays (state old) (state new)
 
 abbrev pub IsBegun : {S : Type 0} → (S → Option StoreState) → ℕ → S → Result Said WorldRefusal → Phase S → Type 0

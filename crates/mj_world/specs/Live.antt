@@ -2,7 +2,7 @@
 --     WorldLives     the store, the mount or the rank of the world has its facts against the machine
 --     machine_after  the machine after a step that was answered so
 --     Replies        what the machine says is what was answered
-use Rattle.std.specs.Prelude.{◌≡◌, ℕ, false, Option, None, Result, Ok, IsTrue, IsSome}
+use Rattle.std.specs.Prelude.{◌≡◌, ℕ, false, true, Option, None, Result, Ok, IsTrue, IsSome}
 use Rattle.mj_tree.specs.Answer.{changes}
 use Rattle.mj_tree.specs.Listing.{listing}
 use Rattle.mj_store.specs.State.{StoreState}
@@ -43,8 +43,9 @@ machine_after m step.Reap (Ok (said.Reaped reaped)) = after_reap m reaped
 machine_after m step.Begin (Ok (said.Begun tail)) = stopped m tail
 machine_after m s result = m
 
--- The reply is the machine's, and a request that changes its state has an end. The tree is that of all requests that were kept.
+-- The reply is the machine's, and a request that changes its state has an end. The tree and the state are those of all requests that were kept.
 abbrev pub Replies : LogMachine → Step → Result Said WorldRefusal → Type 0
 Replies m (step.Ask r) (Ok (said.Asked early)) = (early.reply ≡ reply_to m r) × (IsTrue (changes (early_state m) r) → IsSome early.ends_at)
-Replies m step.Tree (Ok (said.Listing text)) = text ≡ listing (early_state m) false
+Replies m step.Tree (Ok (said.Tree text)) = text ≡ listing (early_state m) false
+Replies m step.State (Ok (said.State text)) = text ≡ listing (early_state m) true
 Replies m s result = Unit {0}

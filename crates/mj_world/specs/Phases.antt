@@ -39,6 +39,7 @@ phase_refusal step.Begin phase = of_stopped phase
 phase_refusal step.Carry phase = of_mounting phase
 phase_refusal step.Restart phase = of_any phase
 phase_refusal step.Tree phase = of_serving phase
+phase_refusal step.State phase = of_serving phase
 
 abbrev pub IsOfPhase : WorldRefusal → Type 0
 IsOfPhase Stopped = Unit {0}

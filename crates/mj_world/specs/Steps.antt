@@ -21,7 +21,8 @@ IsAnswerTo step.Reap (said.Reaped reaped) = Unit {0}
 IsAnswerTo step.Begin (said.Begun tail) = Unit {0}
 IsAnswerTo step.Carry (said.Carried s) = Unit {0}
 IsAnswerTo step.Restart said.Restarted = Unit {0}
-IsAnswerTo step.Tree (said.Listing text) = Unit {0}
+IsAnswerTo step.Tree (said.Tree text) = Unit {0}
+IsAnswerTo step.State (said.State text) = Unit {0}
 IsAnswerTo s answer = ⊥
 
 -- how many steps a mount has still to make at most

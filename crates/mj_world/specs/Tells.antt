@@ -2,21 +2,21 @@
 use Rattle.std.specs.Prelude.{◌≡◌, ℕ, Option, Result}
 use Rattle.mj_store.specs.State.{StoreState}
 use Rattle.mj_rank.specs.declared.rank.Rank.{Rank}
-use Rattle.mj_rank.specs.Journaled.{IsServedRequest}
+use Rattle.mj_tree.specs.Request.{IsRequest}
 use Rattle.mj_world.specs.declared.answers.Said.{Said}
 use Rattle.mj_world.specs.declared.answers.Step.{Step}
 use Rattle.mj_world.specs.declared.answers.Step.TheVariants as step
 use Rattle.mj_world.specs.declared.answers.WorldRefusal.{WorldRefusal}
 use Rattle.mj_world.specs.declared.world.Phase.{Phase}
 use Rattle.mj_world.specs.declared.world.Phase.TheVariants as phase
-use Rattle.mj_world.specs.Asked.{Answers, Lists}
+use Rattle.mj_world.specs.Asked.{Answers, Lists, ListsFully}
 use Rattle.mj_world.specs.Sent.{IsFlushed, IsReaped}
 use Rattle.mj_world.specs.Carried.{IsBegun, IsCarried}
 use Rattle.mj_world.specs.Stored.{IsTried, IsRestarted}
 
--- a request has to be one that is served
+-- a request has to keep its limits
 abbrev pub CanStep : Step → Type 0
-CanStep (step.Ask r) = IsServedRequest r
+CanStep (step.Ask r) = IsRequest r
 CanStep _ = Unit {0}
 
 -- A rank that serves goes on to serve, and P says what it did. Another phase stays.
@@ -45,3 +45,4 @@ Tells state number step.Begin old result new = WhileStopped state number old res
 Tells state number step.Carry old result new = WhileMounting state old result new
 Tells state number step.Restart old result new = IsRestarted state old result new
 Tells state number step.Tree old result new = WhileServing Lists old result new
+Tells state number step.State old result new = WhileServing ListsFully old result new

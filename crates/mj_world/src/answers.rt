@@ -19,7 +19,10 @@ pub enum Step {
     Carry,
     /// The store is stopped and started again.
     Restart,
+    /// The tree of all requests that were accepted.
     Tree,
+    /// The same with the next inode and the sessions.
+    State,
 }
 
 /// What a world says to a step.
@@ -33,7 +36,8 @@ pub enum Said {
     Begun(u64),
     Carried(MountStep),
     Restarted,
-    Listing(Items<u8>),
+    Tree(Items<u8>),
+    State(Items<u8>),
 }
 
 /// Why a world refuses a step.

@@ -32,14 +32,14 @@ impl<S: ObjectStore> World<S> {
     ghost use Rattle.mj_world.specs.Steps.{IsAnswerTo, Leaves};
     ghost use Rattle.mj_world.specs.Oldest.{oldest_sent};
     ghost use Rattle.mj_world.specs.Phases.{phase_refusal, of_serving, of_stopped, of_mounting, of_any, ByPhase};
-    ghost use Rattle.mj_world.specs.Asked.{Answers, Lists};
+    ghost use Rattle.mj_world.specs.Asked.{Answers, Lists, ListsFully};
     ghost use Rattle.mj_world.specs.Sent.{IsFlushed, IsReaped};
     ghost use Rattle.mj_world.specs.Stored.{IsTried, IsRestarted};
     ghost use Rattle.mj_world.specs.Tells.{CanStep, WhileServing, WhileStopped, WhileMounting};
     ghost use Rattle.mj_world.specs.Live.{WorldLives, told, machine_after, Replies};
     ghost use Rattle.mj_world.specs.Made.{Made};
     ghost use Rattle.mj_machine.specs.Machine.{LogMachine};
-    ghost use Rattle.mj_rank.specs.Journaled.{IsServedRequest};
+    ghost use Rattle.mj_tree.specs.Request.{IsRequest};
     ghost use Rattle.mj_rank.specs.Live.{StopLives, StopsSafely};
 
     /// A stopped world over a store that was restarted.
@@ -70,6 +70,7 @@ impl<S: ObjectStore> World<S> {
             Step::Carry => self.carry(alloc),
             Step::Restart => self.restart(),
             Step::Tree => self.tree(alloc),
+            Step::State => self.full_tree(alloc),
         }
     }
 
@@ -124,7 +125,7 @@ impl<S: ObjectStore> World<S> {
     }
 
     fn ask(&mut self, alloc: Global, r: &ClientRequest) -> Result<Said, WorldRefusal>
-        requires { IsServedRequest r.now }
+        requires { IsRequest r.now }
         ensures number { self.new.number ≡ self.old.number }
         ensures since { (base : ℕ) → WorldSince S.faults S.unreported base self.old → WorldSince S.faults S.unreported base self.new }
         ensures cause { (base : ℕ) → WorldSince S.faults S.unreported base self.old → IfErr result (λ e. IsFault e → HasFailed S.faults base self.new) }
@@ -156,7 +157,25 @@ impl<S: ObjectStore> World<S> {
     {
         match &self.phase {
             Phase::Serving(rank) => match rank.listing(alloc, false) {
-                Ok(text) => Ok(Said::Listing(Items::from_vec(text))),
+                Ok(text) => Ok(Said::Tree(Items::from_vec(text))),
+                Err(_) => Err(WorldRefusal::Memory),
+            },
+            _ => Err(WorldRefusal::Stopped),
+        }
+    }
+
+    fn full_tree(&mut self, alloc: Global) -> Result<Said, WorldRefusal>
+        ensures same { self.new ≡ self.old }
+        ensures answer { IfOk result (IsAnswerTo Step.State) }
+        ensures cause { (base : ℕ) → IfErr result (λ e. IsFault e → HasFailed S.faults base self.new) }
+        ensures leaves { IfOk result (λ said. Leaves said self.old self.new) }
+        ensures phase { ByPhase (of_serving self.old.phase) result }
+        ensures tells { WhileServing ListsFully self.old.phase result self.new.phase }
+        ensures replies { (m : LogMachine) → WorldLives S.state self.old m → Replies m Step.State result }
+    {
+        match &self.phase {
+            Phase::Serving(rank) => match rank.listing(alloc, true) {
+                Ok(text) => Ok(Said::State(Items::from_vec(text))),
                 Err(_) => Err(WorldRefusal::Memory),
             },
             _ => Err(WorldRefusal::Stopped),

@@ -3,16 +3,16 @@ use Rattle.mj_rank.proofs.Reaping.{lives_acked}
 use Rattle.mj_rank.proofs.laws.a_rank_lives_on.Goals as goal
 
 pub returns-clause-tried : goal.returns-clause-tried
-returns-clause-tried c rank l tree version m s name k = lives_tried rank l tree version m s k name
+returns-clause-tried c rank l cells m s name k = lives_tried rank l cells m s k name
 
 pub returns-clause-not_done : goal.returns-clause-not_done
-returns-clause-not_done c rank l tree version m s name k = lives_failed rank l tree version m s k name
+returns-clause-not_done c rank l cells m s name k = lives_failed rank l cells m s k name
 
 pub returns-clause-told : goal.returns-clause-told
-returns-clause-told c rank l tree version m s k = lives_reported rank l tree version m s k
+returns-clause-told c rank l cells m s k = lives_reported rank l cells m s k
 
 pub returns-clause-write : goal.returns-clause-write
-returns-clause-write c rank l tree version m s op next more k = lives_wrote rank l tree version m s op next more k
+returns-clause-write c rank l cells m s op next more k = lives_wrote rank l cells m s op next more k
 
 pub returns-clause-write_done : goal.returns-clause-write_done
-returns-clause-write_done c rank l tree version m s a first done k = lives_acked rank l tree version m s a k first done
+returns-clause-write_done c rank l cells m s a first done k = lives_acked rank l cells m s a k first done

@@ -2,7 +2,6 @@ use Rattle.std.proofs.Common.{None, ap, ◌∙◌}
 use Rattle.std.specs.Prelude.{map}
 use Rattle.mj_store.specs.Causes.{Listed}
 use Rattle.mj_store.proofs.Counts.{counted_same}
-use Rattle.mj_tree.specs.Meaning.{state_of}
 use Rattle.mj_rank.specs.declared.mounting.Stage.TheVariants.{Announcing}
 use Rattle.mj_rank.proofs.MountCalls.{stop_stays, stop_stops, mount_begins}
 use Rattle.mj_rank.proofs.mounting.Mounting.begin.Goals as goal
@@ -26,9 +25,9 @@ returns-clause-live g c = λ m t. mount_begins g.S.ObjectStore.state c.args.stor
       header = c.next_header-header.ensures z;
       found = c.in-Ok.found.header;
       tail = c.in-Ok.found.tail;
-      tree = state_of c.in-Ok.found.tree;
-      root_version = c.in-Ok.found.root_version;
-      log = c.in-Ok-log.ensures z;
+      cache = c.in-Ok.found.cache;
+      log = c.in-Ok-log.ensures.journal z;
+      segment = c.in-Ok-log.ensures.segment z;
       stage = Announcing;
       sent = 0;
       next = c.new-cuts.ensures.next z;

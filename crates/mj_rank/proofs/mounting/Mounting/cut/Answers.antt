@@ -6,12 +6,11 @@ use Rattle.mj_rank.proofs.SinceLemmas.{mount_since_same}
 use Rattle.mj_rank.proofs.mounting.Mounting.cut.Goals as goal
 
 pub returns-in_err-found-clause-since : goal.returns-in_err-found-clause-since
-returns-in_err-found-clause-since g c = λ base h. mount_since_same base c.args.self.now (record c.args.self.now { store = c.look.new.store }) c.look.ensures.later h.out h c.look.ensures.same_list refl refl
+returns-in_err-found-clause-since g c = λ base h. mount_since_same base c.args.self.now _ c.look.ensures.later h.out h c.look.ensures.same_list refl refl
 
 pub returns-in_err-found-clause-steps : goal.returns-in_err-found-clause-steps
 returns-in_err-found-clause-steps g c =
-    let new = record c.args.self.now { store = c.look.new.store } in
-    refused_steps g.S.ObjectStore.state c.args.self.now new _ c.from_residual.result c.from_residual.ensures.1 (refused g.S.ObjectStore.state c.args.self.now new refl c.look.ensures.stays)
+    refused_steps g.S.ObjectStore.state c.args.self.now _ _ c.from_residual.result c.from_residual.ensures.1 (refused g.S.ObjectStore.state c.args.self.now _ refl c.look.ensures.stays)
 
 pub returns-in-Some-clause-since : goal.returns-in-Some-clause-since
 returns-in-Some-clause-since g c = λ base h. c.send_cut.ensures.since base (mount_since_same base c.args.self.now _ c.look.ensures.later h.out h c.look.ensures.same_list refl refl)
@@ -24,7 +23,7 @@ returns-in-Some-clause-steps g c =
     let k = c.args.self.now in
     let is : c.in_ok-found.found ≡ Some (c.in-Some.index, c.in-Some.op) = search rules in
     let finds = subst (λ (o : Option (ℕ × ObjectOp)). Looks k.number k.found.header.layout k.found.tail k.cuts.next k.cuts.end o (g.S.ObjectStore.state k.store) (g.S.ObjectStore.state c.look.new.store)) is c.in_ok-found.ensures.looks in
-    cut_steps g.S.ObjectStore.state k c.requires.cutting c.look.new.store c.in-Some.index c.in-Some.op finds _ c.send_cut.result c.send_cut.ensures.sent c.send_cut.ensures.refused
+    cut_steps g.S.ObjectStore.state k c.requires.cutting c.look.new.store _ c.in-Some.index c.in-Some.op finds _ c.send_cut.result c.send_cut.ensures.sent c.send_cut.ensures.refused
 
 pub returns-then-is_empty-clause-since : goal.returns-then-is_empty-clause-since
 returns-then-is_empty-clause-since g c = λ base h. c.send.ensures.since base (mount_since_same base c.args.self.now _ c.look.ensures.later h.out h c.look.ensures.same_list refl refl)
@@ -34,7 +33,7 @@ returns-then-is_empty-clause-steps g c =
     let k = c.args.self.now in
     let none : c.in_ok-found.found ≡ None = search rules in
     let passes = subst (λ (o : Option (ℕ × ObjectOp)). Looks k.number k.found.header.layout k.found.tail k.cuts.next k.cuts.end o (g.S.ObjectStore.state k.store) (g.S.ObjectStore.state c.look.new.store)) none c.in_ok-found.ensures.looks in
-    looked_steps g.S.ObjectStore.state k c.requires.cutting c.look.new.store _ passes _ c.send.result c.send.ensures.steps
+    looked_steps g.S.ObjectStore.state k c.requires.cutting c.look.new.store _ _ passes _ c.send.result c.send.ensures.steps
 
 pub returns-else-is_empty-clause-since : goal.returns-else-is_empty-clause-since
 returns-else-is_empty-clause-since g c = λ base h. c.await_done.ensures.since base (mount_since_same base c.args.self.now _ c.look.ensures.later h.out h c.look.ensures.same_list refl refl)
@@ -47,4 +46,4 @@ returns-else-is_empty-clause-steps g c =
     let k = c.args.self.now in
     let none : c.in_ok-found.found ≡ None = search rules in
     let passes = subst (λ (o : Option (ℕ × ObjectOp)). Looks k.number k.found.header.layout k.found.tail k.cuts.next k.cuts.end o (g.S.ObjectStore.state k.store) (g.S.ObjectStore.state c.look.new.store)) none c.in_ok-found.ensures.looks in
-    looked_steps g.S.ObjectStore.state k c.requires.cutting c.look.new.store _ passes _ c.await_done.result c.await_done.ensures.steps
+    looked_steps g.S.ObjectStore.state k c.requires.cutting c.look.new.store _ _ passes _ c.await_done.result c.await_done.ensures.steps

@@ -1,4 +1,4 @@
-use Rattle.mj_rank.proofs.MountLives.{mount_stays, mount_stops_by, mount_stopped, mount_stopped_stops}
+use Rattle.mj_rank.proofs.MountLives.{kept_same, mount_stays, mount_stops_by, mount_stopped, mount_stopped_stops}
 use Rattle.mj_store.proofs.Paths.{goes_stays}
 use Rattle.std.proofs.Common.{refl, sym, subst}
 use Rattle.mj_store.specs.Moves.{Restarts}
@@ -7,6 +7,9 @@ use Rattle.mj_rank.proofs.mounting.Mounting.restart.Goals as goal
 
 pub returns-in-Err-clause-since : goal.returns-in-Err-clause-since
 returns-in-Err-clause-since g c = λ base h. mount_since_same base c.args.self _ c.restart.ensures.later h.out h c.in-Err.ensures.same_list refl refl
+
+pub returns-in-Err-clause-kept : goal.returns-in-Err-clause-kept
+returns-in-Err-clause-kept g c = kept_same c.args.self c.restart.new.self _ _
 
 pub returns-in-Ok-clause-live : goal.returns-in-Ok-clause-live
 returns-in-Ok-clause-live g c = λ m t. mount_stopped g.S.ObjectStore.state c.args.self m c.into_store.result c.into_store.ensures c.in-Ok.ensures.ok t

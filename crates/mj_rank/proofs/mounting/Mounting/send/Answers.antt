@@ -9,7 +9,7 @@ use Rattle.mj_rank.proofs.mounting.Mounting.send.Goals as goal
 
 pub returns-in_err-bytes-clause-steps : goal.returns-in_err-bytes-clause-steps
 returns-in_err-bytes-clause-steps g c =
-    refused_steps g.S.ObjectStore.state c.args.self.now (record c.args.self.now { header = record c.args.self.now.header { phase = c.args.phase } }) _ c.from_residual.result c.from_residual.ensures.1
+    refused_steps g.S.ObjectStore.state c.args.self.now _ _ c.from_residual.result c.from_residual.ensures.1
     (record { told = g.S.ObjectStore.state c.args.self.now.store; looks = looks_none g.S.ObjectStore.state c.args.self.now; value = refl; rest = inl (stays_itself _, refl) })
 
 pub returns-in-Ok-clause-since : goal.returns-in-Ok-clause-since
@@ -38,4 +38,4 @@ returns-in-Err-clause-steps g c = record { told = g.S.ObjectStore.state c.args.s
 
 pub returns-in-Err-clause-since : goal.returns-in-Err-clause-since
 returns-in-Err-clause-since g c = λ base h.
-    mount_since_same base c.args.self.now (record c.args.self.now { store = c.submit.new.self; header = record c.args.self.now.header { phase = c.args.phase } }) c.submit.ensures.later h.out h c.in-Err.ensures.same_list refl refl
+    mount_since_same base c.args.self.now _ c.submit.ensures.later h.out h c.in-Err.ensures.same_list refl refl

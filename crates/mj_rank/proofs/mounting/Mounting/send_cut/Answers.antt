@@ -23,10 +23,10 @@ returns-in-Ok-clause-sent g c = record {
 pub returns-in-Ok-clause-since : goal.returns-in-Ok-clause-since
 unfolding returns-in-Ok-clause-sent
 returns-in-Ok-clause-since g c = λ base h.
-    since_cut base c.args.self.now (record c.args.self.now { store = c.submit.new.self; cuts = c.sent.new.self }) c.submit.new.self refl c.submit.ensures.later h c.in-Ok.number c.args.index c.requires.cutting (returns-in-Ok-clause-sent g c).value c.in-Ok.ensures.listed c.in-Ok.ensures.newest
+    since_cut base c.args.self.now _ c.submit.new.self refl c.submit.ensures.later h c.in-Ok.number c.args.index c.requires.cutting (returns-in-Ok-clause-sent g c).value c.in-Ok.ensures.listed c.in-Ok.ensures.newest
 
 pub returns-in-Err-clause-since : goal.returns-in-Err-clause-since
 returns-in-Err-clause-since g c = λ base h.
-    mount_since_same base c.args.self.now (record c.args.self.now { store = c.submit.new.self; cuts = c.reserve.new.self }) c.submit.ensures.later
+    mount_since_same base c.args.self.now _ c.submit.ensures.later
     (subst (λ (out : List Cut). OutAt c.args.self.now.stage out) (sym c.reserve.ensures.out) h.out) h c.in-Err.ensures.same_list refl
     (ap (λ (out : List Cut). numbers_at c.args.self.now.stage c.args.self.now.number c.args.self.now.sent out) c.reserve.ensures.out)

@@ -1,8 +1,14 @@
 use Rattle.mj_store.proofs.Paths.{goes_itself, goes_reaps}
-use Rattle.std.proofs.Common.{None, Some}
 use Rattle.mj_rank.specs.Request.{value_of}
 use Rattle.mj_rank.proofs.Living.{value_stays, value_reported, rank_down, rank_acked, stops_by, stops_down}
-use Rattle.std.proofs.Common.{refl, ap}
+use Rattle.std.proofs.Common.{None, Some, refl, sym, ap, subst, ◌∙◌}
+use Rattle.mj_store.specs.Events.{Tells}
+use Rattle.mj_cells.specs.Table.{Table}
+use Rattle.mj_cache.specs.Cached.{CacheValue}
+use Rattle.mj_machine.specs.Machine.{made_safe}
+use Rattle.mj_journaler.specs.Journal.{end_of}
+use Rattle.mj_rank.specs.Live.{Lives}
+use Rattle.mj_rank.proofs.Groups.{fewer_ended}
 use Rattle.mj_rank.specs.Log.{log_value}
 use Rattle.mj_rank.proofs.Out.{listed_acked}
 use Rattle.mj_rank.proofs.SinceLemmas.{rank_since_same, rank_since_down_by, rank_since_reported, reaps_done}
@@ -41,7 +47,14 @@ returns-in-None-clause-stops g c = λ m t. stops_by g.S.ObjectStore.state c.args
 
 pub returns-else-not-done-clause-live : goal.returns-else-not-done-clause-live
 returns-else-not-done-clause-live g c = λ m t.
-    rank_acked g.S.ObjectStore.state c.args.self.now m _ _ _ (ap log_value c.acked-from.ensures.is) c.acked-from.ensures.to (reaps_done _ (g.S.ObjectStore.state c.args.self.now.store) (g.S.ObjectStore.state c.reap.new.self) c.if-not-done.false c.in-Some.ensures.told) t
+    subst (λ (cells : Table). Tells (g.S.ObjectStore.state c.reap.new.self) (Lives c.args.self.now.number (log_value c.acked-from.new.self) cells (made_safe m c.acked-from.result.to))) (sym c.make_safe.ensures.early)
+    (rank_acked g.S.ObjectStore.state c.args.self.now m _ _ _ (ap log_value c.acked-from.ensures.is) c.acked-from.ensures.to (reaps_done _ (g.S.ObjectStore.state c.args.self.now.store) (g.S.ObjectStore.state c.reap.new.self) c.if-not-done.false c.in-Some.ensures.told) t)
 
 pub returns-else-not-done-clause-stops : goal.returns-else-not-done-clause-stops
 returns-else-not-done-clause-stops g c = λ m t. stops_by g.S.ObjectStore.state c.args.self.now m (goes_reaps (Some _) c.in-Some.ensures.told) t
+
+pub invariant_of-self-in-Some : goal.invariant_of-self-in-Some
+invariant_of-self-in-Some g c = record {
+  cells = ap (λ (v : CacheValue). v.rank) c.make_safe.ensures.safe ∙ c.args.self.now.cells;
+  ended = fewer_ended c.args.self.now.log c.acked-from.new.self c.acked-from.result.to c.args.self.now.cache c.make_safe.new.self (ap end_of c.acked-from.ensures.is) c.make_safe.ensures.safe c.args.self.now.ended;
+}

@@ -2,7 +2,6 @@ use Rattle.mj_world.proofs.Refused.{refuses_serving, stays_serving}
 use Rattle.mj_world.proofs.Stays.{stays_safe, rank_stands}
 use Rattle.mj_world.proofs.Between.{lives_from, stops_from}
 use Rattle.mj_world.proofs.Numbers.{number_after}
-use Rattle.mj_world.proofs.Replies.{change_ends}
 use Rattle.mj_world.specs.declared.world.Phase.TheVariants.{Serving}
 use Rattle.std.proofs.Common.{refl, ◌∙◌}
 use Rattle.mj_world.proofs.world.World.ask.Goals as goal
@@ -20,7 +19,7 @@ returns-in-Ok-clause-stops g c = λ m.
 pub returns-in-Ok-clause-replies : goal.returns-in-Ok-clause-replies
 returns-in-Ok-clause-replies g c = λ m.
     lives_from g.S.ObjectStore.state c.args.self.now (Serving c.in-Serving.rank) c.in-Serving.is m
-    (λ t. (c.in-Ok.ensures.reply m t.1, change_ends g.S.ObjectStore.state c.in-Serving.rank c.args.r.now c.in-Ok.early c.requires c.in-Ok.ensures.early m t.1))
+    (λ t. (c.in-Ok.ensures.reply m t.1, c.in-Ok.ensures.ends m t.1))
 
 pub returns-in-Err-clause-stops : goal.returns-in-Err-clause-stops
 returns-in-Err-clause-stops g c = λ m.

@@ -133,3 +133,19 @@ returns-in-Tree g c = record {
     replies = c.tree.ensures.replies;
   });
 }
+
+pub returns-in-State : goal.returns-in-State
+returns-in-State g c = record {
+  made = subst (λ s. Made g.S.ObjectStore.state g.S.ObjectStore.faults g.S.ObjectStore.unreported s c.args.self.now c.full_tree.result c.full_tree.new.self) (sym c.in-State.is) (record {
+    number = ap (λ (w : World _). w.number) c.full_tree.ensures.same;
+    since = λ base h. subst (WorldSince g.S.ObjectStore.faults g.S.ObjectStore.unreported base) (sym c.full_tree.ensures.same) h;
+    cause = λ base h. c.full_tree.ensures.cause base;
+    answer = c.full_tree.ensures.answer;
+    leaves = λ base h. c.full_tree.ensures.leaves;
+    phase = c.full_tree.ensures.phase;
+    tells = c.full_tree.ensures.tells;
+    live = λ m h. subst (λ w. WorldLives g.S.ObjectStore.state w m) (sym c.full_tree.ensures.same) h;
+    stops = stops_same g.S.ObjectStore.state c.args.self.now c.full_tree.new.self (ap (λ (w : World _). w.phase) c.full_tree.ensures.same);
+    replies = c.full_tree.ensures.replies;
+  });
+}
