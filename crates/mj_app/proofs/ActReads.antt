@@ -175,6 +175,7 @@ module _ {S : Type 0} (state : S → Option StoreState) (faults : S → ℕ) (un
   one_reads step.Carry m old acts told worlds next ends lives = lost_reads (line.One step.Carry) m acts told next ends
   one_reads step.Restart m old acts told worlds next ends lives = single_reads step.Restart m old acts told tt worlds next ends lives
   one_reads step.Tree m old acts told worlds next ends lives = single_reads step.Tree m old acts told tt worlds next ends lives
+  one_reads step.State m old acts told worlds next ends lives = single_reads step.State m old acts told tt worlds next ends lives
 
   -- ---- any line
 

@@ -1,5 +1,5 @@
 -- What a call says, by its command and its status.
-use Rattle.std.proofs.Common.{◌≡◌, ℕ, ◌≤◌, ◌⊎◌, inl, inr, ◌+◌, cond, eqb, List, [], length, Option, Some, None, IsSomeAnd, Ok, Err, refl, sym, ap, subst, ◌∙◌, arith, append-nil}
+use Rattle.std.proofs.Common.{◌≡◌, ℕ, ◌≤◌, ◌⊎◌, inl, inr, ◌+◌, cond, eqb, List, [], length, Option, Some, None, IsSomeAnd, Result, Ok, Err, refl, sym, ap, subst, ◌∙◌, arith, append-nil}
 use Rattle.mj_base.specs.Counts.{Rose}
 use Rattle.mj_base.specs.Sink.{then_taken}
 use Rattle.mj_base.specs.Files.{FilesByName}
@@ -18,14 +18,16 @@ use Rattle.mj_app.specs.declared.read.ReadRefusal.TheVariants as read
 use Rattle.mj_app.specs.declared.status.Status.{Status}
 use Rattle.mj_app.specs.declared.status.Status.TheVariants.{Done, Damage, Words, Refused, Memory, Store, Files, Grammar, Sink}
 use Rattle.mj_app.specs.Status.{code_of}
-use Rattle.mj_app.specs.Read.{IsScript, IsReadRefusal}
-use Rattle.mj_app.specs.Took.{SinkState, TookNone, TookOrFailed}
+use Rattle.mj_app.specs.Read.{HasLines, IsScript, IsFileRefusal, KeepsFromLines}
+use Rattle.mj_model.specs.Took.{SinkState, TookNone, TookOrFailed}
+use Rattle.mj_model.specs.declared.run.ModelEnd.{ModelEnd}
+use Rattle.mj_model.specs.declared.run.ModelEnd.TheVariants as model
 use Rattle.mj_app.specs.Run.{OverRestarted, LineEnds, StartEnds, RunSays, PlaySays}
 use Rattle.mj_app.specs.Say.{refusal_text}
-use Rattle.mj_app.specs.Call.{FilesState, status_of, EndsWith, TellsMissing, TellsLong, TellsOutside, EndSays, IsExact, RefusalEnds, PlayCall}
+use Rattle.mj_app.specs.Call.{FilesState, status_of, EndsWith, TellsMissing, TellsLong, TellsOutside, TellsExactly, RefusedSays, EndSays, IsExact, RefusalEnds, PlayCall, ModelEnds, ModelCall, model_status}
 use Rattle.mj_app.specs.Formats.{FormatEnds, cut_status, format_status}
 use Rattle.mj_app.proofs.RunLemmas.{run_failed}
-use Rattle.mj_app.proofs.TookLemmas.{raised}
+use Rattle.mj_model.proofs.TookLemmas.{raised}
 
 -- ---- codes
 
@@ -47,6 +49,31 @@ status_at-code Sink = refl
 
 same_status : (s t : Status) → code_of s ≡ code_of t → s ≡ t
 same_status s t e = sym (status_at-code s) ∙ ap status_at e ∙ status_at-code t
+
+-- ---- a refusal
+
+-- nothing keeps a call from the lines but what keeps it from their bytes, or one of them
+pub keeps_from_lines : {L : Type 0} (grammar : List ℕ → Result (List L) ℕ) (told : Option FilesByName) (before now : ℕ) (name : List ℕ) (why : ReadRefusal) → IsFileRefusal told before now name why → KeepsFromLines grammar told before now name why
+keeps_from_lines grammar told before now name (read.BadLine n) h = absurd h
+keeps_from_lines grammar told before now name _ h = h
+
+module _ {L : Type 0} (grammar : List ℕ → Result (List L) ℕ) (name : List ℕ) (files files_after : FilesState) (old new : SinkState) where
+  pub refused : (s : Status) (why : ReadRefusal) → KeepsFromLines grammar files.told files.faults files_after.faults name why → RefusalEnds why old new s → RefusedSays grammar name files files_after old new s
+  refused s why h (inr e) = subst (RefusedSays grammar name files files_after old new) (sym e.0) e.1
+  refused s read.Words h (inl e) = absurd h
+  refused s read.FileMissing h (inl e) = subst (RefusedSays grammar name files files_after old new) (sym e.0) (inl h, (read.FileMissing, refl, h, e.1))
+  refused s (read.FileTooLong n) h (inl e) = subst (RefusedSays grammar name files files_after old new) (sym e.0) (inr (inl (n, h)), (read.FileTooLong n, refl, h, e.1))
+  refused s read.FileFault h (inl e) = subst (RefusedSays grammar name files files_after old new) (sym e.0) (inr (inr h), (read.FileFault, refl, h, e.1))
+  refused s (read.BadLine n) h (inl e) = subst (RefusedSays grammar name files files_after old new) (sym e.0) ((n, h), (read.BadLine n, refl, h, e.1))
+  refused s read.Memory h (inl e) = subst (RefusedSays grammar name files files_after old new) (sym e.0) (by e.1)
+    where
+      nothing : (o : Option (List ℕ)) → then_taken [] o ≡ o
+      nothing None = refl
+      nothing (Some t) = ap Some (append-nil t)
+
+      by : TookOrFailed [] old new → TookNone old new
+      by (inl took) = took ∙ nothing old.taken
+      by (inr failed) = absurd (omega (arith, failed.front.short))
 
 -- ---- a play
 
@@ -93,24 +120,11 @@ module _ {S : Type 0} (state : S → Option StoreState) (faults : S → ℕ) (un
       let e = h.over.says in
       (raised old.faults e.middle.faults new.faults e.later (cut_turn (length e.worked + 1) e.ending.told e.middle new e.ends), (lines, script, h))
 
-  -- ---- a refusal
-
-  pub refused : (s : Status) (why : ReadRefusal) (store : S) → IsReadRefusal files.told files.faults files_after.faults name why → RefusalEnds why old new s → EndSays state faults unreported rank name files files_after store store old new s
-  refused s why store h (inr e) = subst (EndSays state faults unreported rank name files files_after store store old new) (sym e.0) (inl (e.1, refl))
-  refused s read.Words store h (inl e) = absurd h
-  refused s read.FileMissing store h (inl e) = subst (EndSays state faults unreported rank name files files_after store store old new) (sym e.0) (inl h, (read.FileMissing, refl, h, e.1), refl)
-  refused s (read.FileTooLong n) store h (inl e) = subst (EndSays state faults unreported rank name files files_after store store old new) (sym e.0) (inr (inl (n, h)), (read.FileTooLong n, refl, h, e.1), refl)
-  refused s read.FileFault store h (inl e) = subst (EndSays state faults unreported rank name files files_after store store old new) (sym e.0) (inr (inr h), (read.FileFault, refl, h, e.1), refl)
-  refused s (read.BadLine n) store h (inl e) = subst (EndSays state faults unreported rank name files files_after store store old new) (sym e.0) ((n, h), (read.BadLine n, refl, h, e.1), refl)
-  refused s read.Memory store h (inl e) = subst (EndSays state faults unreported rank name files files_after store store old new) (sym e.0) (inl (by e.1, refl))
-    where
-      nothing : (o : Option (List ℕ)) → then_taken [] o ≡ o
-      nothing None = refl
-      nothing (Some t) = ap Some (append-nil t)
-
-      by : TookOrFailed [] old new → TookNone old new
-      by (inl took) = took ∙ nothing old.taken
-      by (inr failed) = absurd (omega (arith, failed.front.short))
+  pub refused_play : (s : Status) (store : S) → RefusedSays script_of name files files_after old new s → EndSays state faults unreported rank name files files_after store store old new s
+  refused_play Memory store h = inl (h, refl)
+  refused_play Files store h = (h.0, h.1, refl)
+  refused_play Grammar store h = (h.0, h.1, refl)
+  refused_play _ store h = absurd h
 
   -- ---- a call that plays
 
@@ -169,6 +183,24 @@ formats_not_2 rank layout why old new s code is ends two = subst IsNotWords (sam
     by (inr (inl e)) = ends_not_words s why (inr (inl e.0))
     by (inr (inr e)) = ends_not_words s why (inr (inr e.0))
 
+-- ---- a call that answers a chronicle
+
+module _ {S : Type 0} (state : S → Option StoreState) (faults : S → ℕ) (unreported : S → List Listed) (rank : ℕ) (name : List ℕ) (files files_after : FilesState) (before after : S) (old new : SinkState) where
+  model_not_words : ModelEnds state faults unreported rank name files files_after before after old new Words → ⊥
+  model_not_words (inl h) = h.0
+  model_not_words (inr (lines, read, inr f)) = f.text
+  model_not_words (inr (lines, read, inl a)) = by a.end a.is
+    where
+      by : (end : Result (Unit {0}) ModelEnd) → Words ≡ model_status end → ⊥
+      by (Ok done) e = cc
+      by (Err model.Differs) e = cc
+      by (Err model.Memory) e = cc
+      by (Err model.Sink) e = cc
+
+  -- its code is not 2
+  pub model_not_2 : (code : ℕ) → ModelCall state faults unreported rank name files files_after before after old new code → code ≡ 2 → ⊥
+  model_not_2 code h two = model_not_words (subst (ModelEnds state faults unreported rank name files files_after before after old new) (same_status h.status Words (sym h.is ∙ two)) h.ends)
+
 -- ---- words that are refused
 
 -- their text takes no memory
@@ -178,17 +210,17 @@ words_text s old new is (inr e) = absurd (let no : Words ≡ Memory = sym is ∙
 
 -- ---- what must be told
 
-pub read_exact : (name : List ℕ) (files files_after : FilesState) (s : Status) (lines : List Line) → IsScript files.told name lines → IsExact name files files_after s
-read_exact name files files_after s lines script =
-    let named = script.named in
+pub read_exact : {L : Type 0} (grammar : List ℕ → Result (List L) ℕ) (name : List ℕ) (files files_after : FilesState) (s : Status) (lines : List L) → HasLines grammar files.told name lines → TellsExactly grammar name files files_after s
+read_exact grammar name files files_after s lines has =
+    let named = has.named in
     record {
       missing = λ held told none. absurd (let h = named.file held told in cc);
-      long = λ held told bytes is many. absurd (let h = named.file held told in let same : script.bytes ≡ bytes = cc in many (subst (λ b. length b ≤ MAX_FILE_BYTES) same named.fits));
-      outside = λ held told bytes n is fits bad. absurd (let h = named.file held told in let same : script.bytes ≡ bytes = cc in let both : Err n ≡ Ok lines = sym bad ∙ ap script_of (sym same) ∙ script.script in cc);
+      long = λ held told bytes is many. absurd (let h = named.file held told in let same : has.bytes ≡ bytes = cc in many (subst (λ b. length b ≤ MAX_FILE_BYTES) same named.fits));
+      outside = λ held told bytes n is fits bad. absurd (let h = named.file held told in let same : has.bytes ≡ bytes = cc in let both : Err n ≡ Ok lines = sym bad ∙ ap grammar (sym same) ∙ has.read in cc);
     }
 
-module _ (name : List ℕ) (files files_after : FilesState) where
-  tells_missing : (why : ReadRefusal) (held : FilesByName) → IsReadRefusal files.told files.faults files_after.faults name why → files.told ≡ Some held → held name ≡ None → EndsWith 6 (code_of (status_of why)) files files_after
+module _ {L : Type 0} (grammar : List ℕ → Result (List L) ℕ) (name : List ℕ) (files files_after : FilesState) where
+  tells_missing : (why : ReadRefusal) (held : FilesByName) → KeepsFromLines grammar files.told files.faults files_after.faults name why → files.told ≡ Some held → held name ≡ None → EndsWith 6 (code_of (status_of why)) files files_after
   tells_missing read.Words held h told none = absurd h
   tells_missing read.FileMissing held h told none = inl refl
   tells_missing (read.FileTooLong n) held h told none = inl refl
@@ -196,7 +228,7 @@ module _ (name : List ℕ) (files files_after : FilesState) where
   tells_missing (read.BadLine n) held h told none = absurd (let e = h.named.file held told in cc)
   tells_missing read.Memory held h told none = inr (inl refl)
 
-  tells_long : (why : ReadRefusal) (held : FilesByName) (bytes : List ℕ) → IsReadRefusal files.told files.faults files_after.faults name why → files.told ≡ Some held → held name ≡ Some bytes → (length bytes ≤ MAX_FILE_BYTES → ⊥) → EndsWith 6 (code_of (status_of why)) files files_after
+  tells_long : (why : ReadRefusal) (held : FilesByName) (bytes : List ℕ) → KeepsFromLines grammar files.told files.faults files_after.faults name why → files.told ≡ Some held → held name ≡ Some bytes → (length bytes ≤ MAX_FILE_BYTES → ⊥) → EndsWith 6 (code_of (status_of why)) files files_after
   tells_long read.Words held bytes h told is many = absurd h
   tells_long read.FileMissing held bytes h told is many = inl refl
   tells_long (read.FileTooLong n) held bytes h told is many = inl refl
@@ -211,7 +243,7 @@ module _ (name : List ℕ) (files files_after : FilesState) where
   too_long : (o : Option (List ℕ)) (bytes : List ℕ) (n : ℕ) → o ≡ Some bytes → IsSomeAnd o (λ b. n ≡ length b) → n ≡ length bytes
   too_long o bytes n e h = subst (λ x. IsSomeAnd x (λ b. n ≡ length b)) e h
 
-  tells_outside : (why : ReadRefusal) (held : FilesByName) (bytes : List ℕ) (n : ℕ) → IsReadRefusal files.told files.faults files_after.faults name why → files.told ≡ Some held → held name ≡ Some bytes → length bytes ≤ MAX_FILE_BYTES → script_of bytes ≡ Err n → EndsWith 7 (code_of (status_of why)) files files_after
+  tells_outside : (why : ReadRefusal) (held : FilesByName) (bytes : List ℕ) (n : ℕ) → KeepsFromLines grammar files.told files.faults files_after.faults name why → files.told ≡ Some held → held name ≡ Some bytes → length bytes ≤ MAX_FILE_BYTES → grammar bytes ≡ Err n → EndsWith 7 (code_of (status_of why)) files files_after
   tells_outside read.Words held bytes n h told is fits bad = absurd h
   tells_outside read.FileMissing held bytes n h told is fits bad = absurd (let none = h held told in cc)
   tells_outside (read.FileTooLong m) held bytes n h told is fits bad =
@@ -226,7 +258,7 @@ module _ (name : List ℕ) (files files_after : FilesState) where
   or_memory code s why old new (inl e) h = subst (λ t. EndsWith code (code_of t) files files_after) (sym e.0) h
   or_memory code s why old new (inr e) h = inr (inl (ap code_of e.0))
 
-  pub refusal_exact : (s : Status) (why : ReadRefusal) (old new : SinkState) → IsReadRefusal files.told files.faults files_after.faults name why → RefusalEnds why old new s → IsExact name files files_after s
+  pub refusal_exact : (s : Status) (why : ReadRefusal) (old new : SinkState) → KeepsFromLines grammar files.told files.faults files_after.faults name why → RefusalEnds why old new s → TellsExactly grammar name files files_after s
   refusal_exact s why old new h ends = record {
     missing = λ held told none. or_memory 6 s why old new ends (tells_missing why held h told none);
     long = λ held told bytes is many. or_memory 6 s why old new ends (tells_long why held bytes h told is many);

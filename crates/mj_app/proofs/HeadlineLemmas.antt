@@ -18,14 +18,14 @@ use Rattle.mj_app.specs.declared.status.Status.TheVariants as status
 use Rattle.mj_app.specs.Status.{code_of}
 use Rattle.mj_app.specs.Call.{FilesState, EndSays}
 use Rattle.mj_app.specs.Headline.{IsFormatted, Begun, Whole, NotBegun, Headline, HeadlineAt, HasHeadline, HasFirstHeadline, Playing, RestsAgain, new_machine, line_in, acts_in}
-use Rattle.mj_app.specs.Words.{Format, Play}
+use Rattle.mj_app.specs.Words.{Format, Play, Model}
 use Rattle.mj_app.specs.Run.{Worked, Works, SaysAll, EndsAt, OverRestarted, FailsToStart, LineEnds, all_said, lines_of, world_behind}
-use Rattle.mj_app.specs.Took.{SinkState, TookAll, TookNone, FailedIn, TookOrFailed}
+use Rattle.mj_model.specs.Took.{SinkState, TookAll, TookNone, FailedIn, TookOrFailed}
 use Rattle.mj_app.specs.Worlds.{IsRestarted, Opens, HoldsStore, world_after}
 use Rattle.mj_app.proofs.Leaving.{world_leaves, world_rests, opens_lives, rested_again, rested_restarts, rested_stays, restart_stops, stay_stops, rested_tells, still_stops}
 use Rattle.mj_app.proofs.LinesRead.{Read, with_told, read_none, read_said, read_unsaid, reads}
 use Rattle.mj_app.proofs.RunLemmas.{said_more}
-use Rattle.mj_app.proofs.TookLemmas.{took_none, took_or_failed, failed_more}
+use Rattle.mj_model.proofs.TookLemmas.{took_none, took_or_failed, failed_more}
 
 behind_said : {S : Type 0} (old : World S) (ws : List (Worked S)) (w : Worked S) → world_behind old (ws ++ w ∷ []) ≡ world_after (world_behind old ws) w.acts
 behind_said old [] w = refl
@@ -181,6 +181,9 @@ playing P rank name p r n same =
 
 pub formats_play : (P : ℕ → List ℕ → Type 0) (rank : ℕ) (layout : Striping) → Playing (Some (Format rank layout)) P
 formats_play P rank layout r n same = absurd cc
+
+pub models_play : (P : ℕ → List ℕ → Type 0) (rank : ℕ) (chronicle : List ℕ) → Playing (Some (Model rank chronicle)) P
+models_play P rank chronicle r n same = absurd cc
 
 pub none_play : (P : ℕ → List ℕ → Type 0) → Playing None P
 none_play P r n same = absurd cc

@@ -1,7 +1,6 @@
 -- Whatever a stop may leave of a world that lives recovers to a front and is at rest, and so it is before the first line.
 use Rattle.std.proofs.Common.{◌≡◌, ℕ, [], Option, sym, subst}
 use Rattle.mj_tree.specs.State.{PlainState}
-use Rattle.mj_tree.specs.Meaning.{state_of}
 use Rattle.mj_store.specs.Events.{Goes, Tells}
 use Rattle.mj_store.specs.Moves.{Anything, Stays, Restarts}
 use Rattle.mj_store.specs.State.{StoreState}
@@ -30,7 +29,7 @@ module _ {S : Type 0} (state : S → Option StoreState) where
       record { now = t.now; is = t.is; holds = subst (λ n. LeavesFronts n m t.now) h.0 (mounted_leaves (mount_value k) m t.now t.holds.mounted) }
   leaves_in number m (phase.Serving k) h =
       let t = h.1 in
-      record { now = t.now; is = t.is; holds = subst (λ n. LeavesFronts n m t.now) h.0 (lives_leave k.number (log_value k.log) (state_of k.tree) k.root_version m t.now t.holds) }
+      record { now = t.now; is = t.is; holds = subst (λ n. LeavesFronts n m t.now) h.0 (lives_leave k.number (log_value k.log) _ m t.now t.holds) }
   leaves_in number m phase.Gone h = absurd h
 
   held_tells : (store : S) (p : Phase S) → StoreHas (λ held. held ≡ store) p → told_in state p ≡ state store
@@ -46,7 +45,7 @@ module _ {S : Type 0} (state : S → Option StoreState) where
       record { now = t.now; is = t.is; holds = subst (λ n. RestsAgain n m t.now) h.0 (λ image may. mounted_stopped (mount_value k) m t.now t.holds.mounted image may) }
   rests_in number m (phase.Serving k) h =
       let t = h.1 in
-      record { now = t.now; is = t.is; holds = subst (λ n. RestsAgain n m t.now) h.0 (λ image may. lives_stopped k.number (log_value k.log) (state_of k.tree) k.root_version m t.now image may t.holds) }
+      record { now = t.now; is = t.is; holds = subst (λ n. RestsAgain n m t.now) h.0 (λ image may. lives_stopped k.number (log_value k.log) _ m t.now image may t.holds) }
   rests_in number m phase.Gone h = absurd h
 
   -- the store that is handed back

@@ -1,4 +1,3 @@
-pub mod TookLemmas
 pub mod WorldsLemmas
 pub mod MountActs
 pub mod RunLemmas

@@ -103,6 +103,7 @@ plain_other step.Begin _ h = absurd h
 plain_other step.Carry x h = refl
 plain_other step.Restart x h = refl
 plain_other step.Tree x h = refl
+plain_other step.State x h = refl
 
 plain_agrees : (m : LogMachine) (s : Step) (x : Said) → IsPlain x → Agrees m (line_of_step s, x)
 plain_agrees m (step.Ask r) (said.Bare w) h = tt
@@ -119,6 +120,7 @@ plain_agrees m step.Begin x h = tt
 plain_agrees m step.Carry x h = tt
 plain_agrees m step.Restart x h = tt
 plain_agrees m step.Tree x h = tt
+plain_agrees m step.State x h = tt
 
 stopped_fits : (s : Step) → IsTrue (is_answer (line_of_step s) (said.Bare Stopped))
 stopped_fits (step.Ask r) = refl
@@ -129,6 +131,7 @@ stopped_fits step.Begin = refl
 stopped_fits step.Carry = refl
 stopped_fits step.Restart = refl
 stopped_fits step.Tree = refl
+stopped_fits step.State = refl
 
 mounted_fits : (s : Step) → IsTrue (is_answer (line_of_step s) (said.Bare AlreadyMounted))
 mounted_fits (step.Ask r) = refl
@@ -139,6 +142,7 @@ mounted_fits step.Begin = refl
 mounted_fits step.Carry = refl
 mounted_fits step.Restart = refl
 mounted_fits step.Tree = refl
+mounted_fits step.State = refl
 
 fault_fits : (s : Step) (n : ℕ) → IsTrue (is_answer (line_of_step s) (said.StoreFault n))
 fault_fits (step.Ask r) n = refl
@@ -149,6 +153,7 @@ fault_fits step.Begin n = refl
 fault_fits step.Carry n = refl
 fault_fits step.Restart n = refl
 fault_fits step.Tree n = refl
+fault_fits step.State n = refl
 
 -- a plain answer leaves the machine
 plain_told : (s : Step) (m : LogMachine) (a : Answer) → IsPlain (said_of a) → IsListed m (line_of_step s) a → IsTrue (is_answer (line_of_step s) (said_of a)) → Told (line.One s) m a m
@@ -185,6 +190,7 @@ refused_machine step.Begin m e = refl
 refused_machine step.Carry m e = refl
 refused_machine step.Restart m e = refl
 refused_machine step.Tree m e = refl
+refused_machine step.State m e = refl
 
 -- ---- answers to one step
 
@@ -227,7 +233,8 @@ answered_reads (step.Apply name) m (world_said.Applied None) served answers repl
 answered_reads step.Reap m (world_said.Reaped (reaped.One op from to)) served answers replies = told_exact (line.One step.Reap) m (answer.Reaped (reaped.One op from to)) (after_reap m (reaped.One op from to)) refl tt tt refl
 answered_reads step.Reap m (world_said.Reaped reaped.Nothing) served answers replies = told_exact (line.One step.Reap) m (answer.Reaped reaped.Nothing) m refl tt tt refl
 answered_reads step.Restart m world_said.Restarted served answers replies = told_exact (line.One step.Restart) m answer.Restarted m refl tt tt refl
-answered_reads step.Tree m (world_said.Listing text) served answers replies = told_exact (line.One step.Tree) m (answer.Listing text) m refl tt (ap (λ t. codes "tree\n" ++ t) replies) refl
+answered_reads step.Tree m (world_said.Tree text) served answers replies = told_exact (line.One step.Tree) m (answer.Tree text) m refl tt (ap (λ t. codes "tree\n" ++ t) replies) refl
+answered_reads step.State m (world_said.State text) served answers replies = told_exact (line.One step.State) m (answer.State text) m refl tt (ap (λ t. codes "state\n" ++ t) replies) refl
 answered_reads step.Begin m x served answers replies = absurd served
 answered_reads step.Carry m x served answers replies = absurd served
 answered_reads _ m _ served answers replies = absurd answers

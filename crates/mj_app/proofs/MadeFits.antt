@@ -66,6 +66,15 @@ module _ {S : Type 0} (state : S → Option StoreState) (number : ℕ) where
   tree_refuses (refusal.Mount x) _ new tells by = absurd cc
   tree_refuses _ old new tells by = tt
 
+  state_refuses : (e : WorldRefusal) (old new : Phase S) → Tells state number step.State old (Err e) new → ByPhase (phase_refusal step.State old) (Err e) → MayRefuse step.State e
+  state_refuses (refusal.Rank x) (phase.Serving old) (phase.Serving new) tells by = absurd tells
+  state_refuses (refusal.Rank x) (phase.Serving old) _ tells by = absurd tells
+  state_refuses (refusal.Rank x) _ new tells by = absurd cc
+  state_refuses (refusal.Mount x) (phase.Serving old) (phase.Serving new) tells by = absurd tells
+  state_refuses (refusal.Mount x) (phase.Serving old) _ tells by = absurd tells
+  state_refuses (refusal.Mount x) _ new tells by = absurd cc
+  state_refuses _ old new tells by = tt
+
   begin_refuses : (e : WorldRefusal) (old new : Phase S) → Tells state number step.Begin old (Err e) new → ByPhase (phase_refusal step.Begin old) (Err e) → MayRefuse step.Begin e
   begin_refuses (refusal.Rank x) (phase.Stopped old) (phase.Stopped new) tells by = absurd tells
   begin_refuses (refusal.Rank x) (phase.Stopped old) _ tells by = absurd tells
@@ -110,6 +119,7 @@ module _ {S : Type 0} (state : S → Option StoreState) (number : ℕ) where
   refuses step.Carry = carry_refuses
   refuses step.Restart = restart_refuses
   refuses step.Tree = tree_refuses
+  refuses step.State = state_refuses
 
   -- ---- a mount on its way
 
@@ -137,7 +147,8 @@ module _ {S : Type 0} (state : S → Option StoreState) (number : ℕ) where
   leaves s (said.Flushed span) old new answers tells by = tt
   leaves s (said.Reaped r) old new answers tells by = tt
   leaves s said.Restarted old new answers tells by = tt
-  leaves s (said.Listing text) old new answers tells by = tt
+  leaves s (said.Tree text) old new answers tells by = tt
+  leaves s (said.State text) old new answers tells by = tt
   leaves _ _ old new answers tells by = absurd answers
 
   pub fits_of : (s : Step) (result : Result Said WorldRefusal) (old new : Phase S) → IfOk result (IsAnswerTo s) → Tells state number s old result new → ByPhase (phase_refusal s old) result → Fits s old result new

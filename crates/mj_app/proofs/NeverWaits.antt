@@ -86,11 +86,13 @@ module _ {S : Type 0} (state : S → Option StoreState) (faults : S → ℕ) (un
   said_stands step.Carry (said.Applied op) now = tt
   said_stands step.Restart (said.Applied op) now = tt
   said_stands step.Tree (said.Applied op) now = tt
+  said_stands step.State (said.Applied op) now = tt
   said_stands s (said.Reaped r) now = λ w. w
   said_stands s (said.Begun tail) now = tt
   said_stands s (said.Carried made) now = tt
   said_stands s said.Restarted now = λ w. w
-  said_stands s (said.Listing text) now = λ w. w
+  said_stands s (said.Tree text) now = λ w. w
+  said_stands s (said.State text) now = λ w. w
 
   single_stands : (s : Step) (result : Result Said WorldRefusal) (now : World S) → Stands (stage_after (Stage.Single s) result now.phase) now
   single_stands s (Ok x) now = said_stands s x now
@@ -166,6 +168,7 @@ module _ {S : Type 0} (state : S → Option StoreState) (faults : S → ℕ) (un
   first_stands (line.One step.Carry) now = tt
   first_stands (line.One step.Restart) now = tt
   first_stands (line.One step.Tree) now = tt
+  first_stands (line.One step.State) now = tt
   first_stands line.Mount now = tt
 
   acts_stand : (stage : Stage) (old : World S) (acts : List (Act S)) (m : LogMachine) (told : Option Answer) → Stands stage old → Worlds state faults unreported old acts → AreNext stage acts → stage_by stage acts ≡ Stage.Ended told → WorldLives state old m → NotWaiting told

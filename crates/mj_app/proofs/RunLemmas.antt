@@ -12,11 +12,11 @@ use Rattle.mj_lines.specs.declared.answer.Answer.TheVariants as answer
 use Rattle.mj_app.specs.declared.status.Status.{Status}
 use Rattle.mj_app.specs.declared.status.Status.TheVariants.{Done, Damage, Words, Refused, Memory, Store, Files, Grammar, Sink}
 use Rattle.mj_app.specs.Answers.{GoesOn}
-use Rattle.mj_app.specs.Took.{SinkState, TookAll}
+use Rattle.mj_model.specs.Took.{SinkState, TookAll}
 use Rattle.mj_app.specs.LineActs.{LineActs}
 use Rattle.mj_app.specs.Worlds.{world_after}
 use Rattle.mj_app.specs.Run.{OverRestarted, Worked, Works, WorksTo, AllWorked, SaysAll, EndsAt, LineEnds, RunSays, said, all_said, lines_of, world_behind}
-use Rattle.mj_app.proofs.TookLemmas.{took_nothing, took_more}
+use Rattle.mj_model.proofs.TookLemmas.{took_nothing, took_more}
 use Rattle.mj_app.proofs.WorldsLemmas.{acts_since, opens_since, failed_held, works_failed}
 
 -- ---- texts

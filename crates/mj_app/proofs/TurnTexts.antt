@@ -14,7 +14,8 @@ use Rattle.mj_machine.specs.Said as machine
 use Rattle.mj_machine.specs.Said.{listed}
 use Rattle.mj_machine.specs.Script.{ScriptLine}
 use Rattle.mj_rank.specs.declared.answers.Reaped.TheVariants as reaped
-use Rattle.mj_lines.specs.Text.{turn_text, damage_words, key_words, reply_words, ends_words}
+use Rattle.mj_texts.specs.Text.{reply_words}
+use Rattle.mj_lines.specs.Text.{turn_text, damage_words, key_words, ends_words}
 use Rattle.mj_lines.specs.declared.answer.Answer.{Answer}
 use Rattle.mj_lines.specs.declared.answer.Answer.TheVariants as answer
 use Rattle.mj_app.specs.Turns.{said_of}
@@ -60,7 +61,8 @@ same_end (Some e) = refl
 
 -- a listing is the machine's
 abbrev pub IsListed : LogMachine → ScriptLine → Answer → Type 0
-IsListed m l (answer.Listing text) = line (codes "tree" ∷ []) ++ text ≡ listed m l
+IsListed m l (answer.Tree text) = line (codes "tree" ∷ []) ++ text ≡ listed m l
+IsListed m l (answer.State text) = line (codes "state" ∷ []) ++ text ≡ listed m l
 IsListed m l _ = Unit {0}
 
 -- the text of the n-th line's turn
@@ -76,7 +78,8 @@ turn_is n m l (answer.Reaped reaped.Nothing) h = refl
 turn_is n m l (answer.Mounted epoch tail) h = refl
 turn_is n m l (answer.WaitingFor op) h = refl
 turn_is n m l answer.Restarted h = refl
-turn_is n m l (answer.Listing text) h = ap (λ t. decimal n ++ codes ": " ++ t) h
+turn_is n m l (answer.Tree text) h = ap (λ t. decimal n ++ codes ": " ++ t) h
+turn_is n m l (answer.State text) h = ap (λ t. decimal n ++ codes ": " ++ t) h
 turn_is n m l answer.Stopped h = refl
 turn_is n m l answer.AlreadyMounted h = refl
 turn_is n m l (answer.LogFull bytes) h = refl

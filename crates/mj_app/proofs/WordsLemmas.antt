@@ -1,6 +1,6 @@
 -- Words, read one after another.
 use Rattle.std.proofs.Common.{◌≡◌, ℕ, List, [], ◌∷◌, Option, Some, None, option_map, refl, sym, ap, ◌∙◌}
-use Rattle.mj_lines.specs.Words.{◌>>=◌}
+use Rattle.mj_texts.specs.Words.{◌>>=◌}
 use Rattle.mj_app.specs.Words.{Next, Anything, Value, Only, Piece, Read, GivenValue, read_word, with_piece, given, given_by, pieces}
 use Rattle.mj_app.specs.WordsRead.{ReadingValue, given_if, after_word, at_last, behind_these}
 

@@ -42,6 +42,7 @@ own_step step.Begin served = absurd served
 own_step step.Carry served = absurd served
 own_step step.Restart served = refl
 own_step step.Tree served = refl
+own_step step.State served = refl
 
 -- what a refusal is answered with
 pub answered : {E : Type 0} (told : Option Answer) (r : Result Answer E) → IfOk r (λ a. told ≡ Some a) → OnErr r (told ≡ None) → told ≡ answer_in r
@@ -89,11 +90,13 @@ said_fine step.Begin (said.Applied op) = tt
 said_fine step.Carry (said.Applied op) = tt
 said_fine step.Restart (said.Applied op) = tt
 said_fine step.Tree (said.Applied op) = tt
+said_fine step.State (said.Applied op) = tt
 said_fine s (said.Reaped reaped) = tt
 said_fine s (said.Begun tail) = tt
 said_fine s (said.Carried made) = tt
 said_fine s said.Restarted = tt
-said_fine s (said.Listing text) = tt
+said_fine s (said.Tree text) = tt
+said_fine s (said.State text) = tt
 
 ready_fine : {S : Type 0} (tail : ℕ) (p : Phase S) → Fine (ready tail p)
 ready_fine tail (phase.Stopped store) = tt
@@ -155,6 +158,7 @@ first_fine (line.One step.Begin) = tt
 first_fine (line.One step.Carry) = tt
 first_fine (line.One step.Restart) = tt
 first_fine (line.One step.Tree) = tt
+first_fine (line.One step.State) = tt
 first_fine line.Mount = tt
 
 -- ---- worlds

@@ -19,7 +19,7 @@ use Rattle.mj_app.specs.declared.status.Status.{Status}
 use Rattle.mj_app.specs.declared.status.Status.TheVariants as status
 use Rattle.mj_app.specs.Status.{code_of}
 use Rattle.mj_app.specs.Say.{formatted_text, unformatted_text}
-use Rattle.mj_app.specs.Took.{SinkState, TookAll, TookNone, FailedIn}
+use Rattle.mj_model.specs.Took.{SinkState, TookAll, TookNone, FailedIn}
 use Rattle.mj_app.specs.Worlds.{IsRestarted}
 
 abbrev pub why_not : {T : Type 0} → Result T FormatRefusal → Option FormatRefusal

@@ -26,7 +26,7 @@ use Rattle.mj_app.specs.declared.status.Status.TheVariants as status
 use Rattle.mj_app.specs.Status.{code_of}
 use Rattle.mj_app.specs.Call.{FilesState, OfScript}
 use Rattle.mj_app.specs.Run.{Worked, Works, lines_of, world_behind}
-use Rattle.mj_app.specs.Took.{SinkState, TookAll, TookNone, FailedIn, TookOrFailed}
+use Rattle.mj_model.specs.Took.{SinkState, TookAll, TookNone, FailedIn, TookOrFailed}
 use Rattle.mj_app.specs.Turns.{turn_of, turns_of}
 use Rattle.mj_app.specs.Words.{CommandValue, Play}
 use Rattle.mj_app.specs.Worlds.{Act, IsRestarted, Opens, HoldsStore, world_after}

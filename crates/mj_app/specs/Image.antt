@@ -20,7 +20,7 @@ use Rattle.mj_app.specs.declared.read.ReadRefusal.TheVariants as read
 use Rattle.mj_app.specs.declared.status.Status.{Status}
 use Rattle.mj_app.specs.declared.status.Status.TheVariants as status
 use Rattle.mj_app.specs.Status.{code_of}
-use Rattle.mj_app.specs.Took.{SinkState, TookNone, TookOrFailed}
+use Rattle.mj_model.specs.Took.{SinkState, TookNone, TookOrFailed}
 use Rattle.mj_app.specs.Say.{refusal_text, image_text}
 use Rattle.mj_app.specs.Call.{FilesState, CallSays, RefusalEnds}
 use Rattle.mj_app.specs.Headline.{HasHeadline, HasFirstHeadline, RestsAgain}

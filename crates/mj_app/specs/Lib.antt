@@ -1,5 +1,4 @@
 pub mod Status
-pub mod Took
 pub mod Say
 pub mod Words
 pub mod WordsRead

@@ -1,10 +1,14 @@
--- What the files say of the script of a name.
-use Rattle.std.specs.Prelude.{◌≡◌, ℕ, ◌<◌, ◌≤◌, List, length, Option, None, Some, IsSomeAnd, Ok, Err}
+-- What the files say of the lines that a named file is to hold, those of a script or of a chronicle.
+--     HasLines, HasBadLine    by a grammar: the lines of bytes, or the number of the first that is outside
+--     IsScript, IsChronicle   by these two
+use Rattle.std.specs.Prelude.{◌≡◌, ℕ, ◌<◌, ◌≤◌, List, length, Option, None, Some, IsSomeAnd, Result, Ok, Err}
 use Rattle.mj_base.specs.declared.files.TheConstants.{MAX_FILE_BYTES}
 use Rattle.mj_base.specs.Counts.{Rose}
 use Rattle.mj_base.specs.Files.{FilesByName, IfTold}
 use Rattle.mj_lines.specs.Script.{script_of}
 use Rattle.mj_lines.specs.declared.line.Line.{Line}
+use Rattle.mj_model.specs.Chronicle.{chronicle_of}
+use Rattle.mj_model.specs.declared.chronicle.ChronicleLine.{ChronicleLine}
 use Rattle.mj_app.specs.declared.read.ReadRefusal.{ReadRefusal}
 use Rattle.mj_app.specs.declared.read.ReadRefusal.TheVariants.{Words, FileMissing, FileTooLong, FileFault, BadLine, Memory}
 
@@ -22,23 +26,41 @@ pub record Long (told : Option FilesByName) (name : List ℕ) (n : ℕ) : Type 0
   pub limit : MAX_FILE_BYTES < n
   pub file : IfTold told (λ held. IsSomeAnd (held name) (λ bytes. n ≡ length bytes))
 
--- a line of the script that was read is the first outside the grammar
-pub record Outside (told : Option FilesByName) (name : List ℕ) (n : ℕ) : Type 0 where
-  pub bytes : List ℕ
-  pub named : Named told name bytes
-  pub script : script_of bytes ≡ Err n
+-- what may keep a call from a file's bytes: the files as they are told, and their counts of faults before and after
+abbrev pub IsFileRefusal : Option FilesByName → ℕ → ℕ → List ℕ → ReadRefusal → Type 0
+IsFileRefusal told before now name Words = ⊥
+IsFileRefusal told before now name FileMissing = NotHeld told name
+IsFileRefusal told before now name (FileTooLong n) = Long told name n
+IsFileRefusal told before now name FileFault = Rose before now
+IsFileRefusal told before now name (BadLine n) = ⊥
+IsFileRefusal told before now name Memory = Unit {0}
 
--- these are the lines of what was read
-pub record IsScript (told : Option FilesByName) (name : List ℕ) (lines : List Line) : Type 0 where
-  pub bytes : List ℕ
-  pub named : Named told name bytes
-  pub script : script_of bytes ≡ Ok lines
+module _ {L : Type 0} (grammar : List ℕ → Result (List L) ℕ) where
+  -- a line of what was read is the first outside the grammar
+  pub record HasBadLine (told : Option FilesByName) (name : List ℕ) (n : ℕ) : Type 0 where
+    pub bytes : List ℕ
+    pub named : Named told name bytes
+    pub bad : grammar bytes ≡ Err n
 
--- what may keep a call from its script: the files as they are told, and their counts of faults before and after
+  -- these are the lines of what was read
+  pub record HasLines (told : Option FilesByName) (name : List ℕ) (lines : List L) : Type 0 where
+    pub bytes : List ℕ
+    pub named : Named told name bytes
+    pub read : grammar bytes ≡ Ok lines
+
+  -- what may keep a call from the lines
+  abbrev pub KeepsFromLines : Option FilesByName → ℕ → ℕ → List ℕ → ReadRefusal → Type 0
+  KeepsFromLines told before now name (BadLine n) = HasBadLine told name n
+  KeepsFromLines told before now name why = IsFileRefusal told before now name why
+
+abbrev pub IsScript : Option FilesByName → List ℕ → List Line → Type 0
+IsScript = HasLines script_of
+
 abbrev pub IsReadRefusal : Option FilesByName → ℕ → ℕ → List ℕ → ReadRefusal → Type 0
-IsReadRefusal told before now name Words = ⊥
-IsReadRefusal told before now name FileMissing = NotHeld told name
-IsReadRefusal told before now name (FileTooLong n) = Long told name n
-IsReadRefusal told before now name FileFault = Rose before now
-IsReadRefusal told before now name (BadLine n) = Outside told name n
-IsReadRefusal told before now name Memory = Unit {0}
+IsReadRefusal = KeepsFromLines script_of
+
+abbrev pub IsChronicle : Option FilesByName → List ℕ → List ChronicleLine → Type 0
+IsChronicle = HasLines chronicle_of
+
+abbrev pub IsUnreadChronicle : Option FilesByName → ℕ → ℕ → List ℕ → ReadRefusal → Type 0
+IsUnreadChronicle = KeepsFromLines chronicle_of

@@ -18,7 +18,7 @@ use Rattle.mj_app.specs.declared.status.Status.{Status}
 use Rattle.mj_app.specs.declared.status.Status.TheVariants as status
 use Rattle.mj_app.specs.Answers.{IsStoreFault, IsDamage, IsLast, GoesOn}
 use Rattle.mj_app.specs.LineActs.{LineActs}
-use Rattle.mj_app.specs.Took.{SinkState, TookAll, TookNone, FailedIn, TookOrFailed}
+use Rattle.mj_model.specs.Took.{SinkState, TookAll, TookNone, FailedIn, TookOrFailed}
 use Rattle.mj_app.specs.Worlds.{Act, Worlds, IsRestarted, Over, world_after}
 
 pub record Worked (S : Type 0) : Type 0 where

@@ -5,12 +5,12 @@ use Rattle.mj_image.specs.declared.refusal.ImageRefusal.TheVariants as image
 use Rattle.mj_layout.specs.Striping.{Striping, period}
 use Rattle.mj_format.specs.declared.refusal.FormatRefusal.{FormatRefusal}
 use Rattle.mj_format.specs.declared.refusal.FormatRefusal.TheVariants as format
-use Rattle.mj_lines.specs.Text.{numbered}
+use Rattle.mj_texts.specs.Text.{numbered}
 use Rattle.mj_app.specs.declared.read.ReadRefusal.{ReadRefusal}
 use Rattle.mj_app.specs.declared.read.ReadRefusal.TheVariants as read
 use Rattle.mj_app.specs.declared.say.Unsaid.{Unsaid}
 use Rattle.mj_app.specs.declared.say.Unsaid.TheVariants as unsaid
-use Rattle.mj_app.specs.Took.{SinkState, TookAll, TookNone, FailedIn}
+use Rattle.mj_model.specs.Took.{SinkState, TookAll, TookNone, FailedIn}
 
 -- the text of a refusal; want of memory has none
 abbrev pub refusal_text : ReadRefusal → List ℕ

@@ -28,7 +28,8 @@ said_told s (said.Reaped reaped) = Some (answer.Reaped reaped)
 said_told s (said.Begun tail) = None
 said_told s (said.Carried made) = None
 said_told s said.Restarted = Some answer.Restarted
-said_told s (said.Listing text) = Some (answer.Listing text)
+said_told s (said.Tree text) = Some (answer.Tree text)
+said_told s (said.State text) = Some (answer.State text)
 
 abbrev pub rank_told : RankRefusal → Option Answer
 rank_told (rank.Down fault sealed) = Some (answer.StoreFault fault.faults)

@@ -29,6 +29,7 @@ line_of_step step.Begin = script_line.Begin
 line_of_step step.Carry = script_line.Carry
 line_of_step step.Restart = script_line.Restart
 line_of_step step.Tree = script_line.Tree
+line_of_step step.State = script_line.State
 
 abbrev pub line_in_script : Line → script.ScriptLine
 line_in_script line.Blank = script_line.Blank
@@ -55,7 +56,8 @@ said_of (answer.Reaped r) = acknowledged r
 said_of (answer.Mounted epoch tail) = said.Mounted epoch tail
 said_of (answer.WaitingFor op) = said.WaitingFor op
 said_of answer.Restarted = said.Bare word.Restarted
-said_of (answer.Listing text) = said.Listed
+said_of (answer.Tree text) = said.Listed
+said_of (answer.State text) = said.Listed
 said_of answer.Stopped = said.Bare word.Stopped
 said_of answer.AlreadyMounted = said.Bare word.AlreadyMounted
 said_of (answer.LogFull bytes) = said.LogFull bytes

@@ -8,13 +8,14 @@ use Rattle.std.specs.Global.{Global}
 use Rattle.std.specs.String.{string_bytes}
 use Rattle.mj_base.specs.InOrder.{same_bytes}
 use Rattle.mj_layout.specs.Striping.{Striping, striping_of}
-use Rattle.mj_lines.specs.Number.{number_of}
-use Rattle.mj_lines.specs.Words.{◌>>=◌}
+use Rattle.mj_texts.specs.Number.{number_of}
+use Rattle.mj_texts.specs.Words.{◌>>=◌}
 
 -- what a call is to do
 pub data CommandValue : Type 0 where
   Format : (rank : ℕ) → (layout : Striping) → CommandValue
   Play : (rank : ℕ) → (script : List ℕ) → CommandValue
+  Model : (rank : ℕ) → (chronicle : List ℕ) → CommandValue
 
 -- ---- the words behind the mode
 
@@ -155,17 +156,27 @@ format_of g = absent g.argument (do
   layout ← layout_of g
   Some (Format rank layout))
 
--- a script, and no layout
+-- a file's name, and no layout
+abbrev pub file_of : GivenValue → Option (List ℕ)
+file_of g = absent g.su (absent g.sc (absent g.os g.argument))
+
 abbrev pub play_of : GivenValue → Option CommandValue
-play_of g = absent g.su (absent g.sc (absent g.os (do
+play_of g = do
+  script ← file_of g
   rank ← rank_of g
-  script ← g.argument
-  Some (Play rank script))))
+  Some (Play rank script)
+
+abbrev pub model_of : GivenValue → Option CommandValue
+model_of g = do
+  chronicle ← file_of g
+  rank ← rank_of g
+  Some (Model rank chronicle)
 
 abbrev pub in_mode : List ℕ → GivenValue → Option CommandValue
 in_mode mode g =
     if same_bytes mode (codes "format") then format_of g else
-    if same_bytes mode (codes "play") then play_of g else None
+    if same_bytes mode (codes "play") then play_of g else
+    if same_bytes mode (codes "model") then model_of g else None
 
 abbrev pub behind : List (List ℕ) → Option GivenValue
 behind words = pieces Anything words >>= λ ps. given_by ps nothing

@@ -1,7 +1,7 @@
 -- How far words are read, and what the values of that stand for.
 use Rattle.std.specs.Prelude.{ℕ, List, [], ◌∷◌, Option, None, Some, option_map}
 use Rattle.std.specs.Borrow.{Bor}
-use Rattle.mj_lines.specs.Words.{◌>>=◌}
+use Rattle.mj_texts.specs.Words.{◌>>=◌}
 use Rattle.mj_app.specs.declared.words.Command.{Command}
 use Rattle.mj_app.specs.declared.words.Command.TheVariants as command
 use Rattle.mj_app.specs.declared.words.Form as declared_form
@@ -10,11 +10,12 @@ use Rattle.mj_app.specs.declared.words.Next as declared_next
 use Rattle.mj_app.specs.declared.words.Next.TheVariants as next
 use Rattle.mj_app.specs.declared.words.Given.{Given}
 use Rattle.mj_app.specs.declared.words.Reading.{Reading}
-use Rattle.mj_app.specs.Words.{CommandValue, Format, Play, Form, Dashes, Plain, Named, Whole, Dashed, Next, Anything, Value, Only, Piece, Read, GivenValue, read_word, at_end, given, pieces, given_by}
+use Rattle.mj_app.specs.Words.{CommandValue, Format, Play, Model, Form, Dashes, Plain, Named, Whole, Dashed, Next, Anything, Value, Only, Piece, Read, GivenValue, read_word, at_end, given, pieces, given_by}
 
 abbrev pub command_value : Command → CommandValue
 command_value (command.Format rank layout) = Format rank layout
 command_value (command.Play rank script) = Play rank script.now
+command_value (command.Model rank chronicle) = Model rank chronicle.now
 
 abbrev pub form_value : declared_form.Form → Form
 form_value form.Dashes = Dashes

@@ -25,7 +25,8 @@ pub fn answer_of(step: &Step, said: Said) -> Answer
         },
         Said::Reaped(reaped) => Answer::Reaped(reaped),
         Said::Restarted => Answer::Restarted,
-        Said::Listing(text) => Answer::Listing(text),
+        Said::Tree(text) => Answer::Tree(text),
+        Said::State(text) => Answer::State(text),
         Said::Begun(_) => unreachable!(),
         Said::Carried(_) => unreachable!(),
     }

@@ -1,13 +1,14 @@
 //! The top call over a store.
 
 ghost use Rattle.std.specs.Prelude.{◌≡◌, ◌≤◌, ◌↔◌, None, Some};
-ghost use Rattle.mj_app.specs.Took.{sink_state};
+ghost use Rattle.mj_model.specs.Took.{sink_state};
 ghost use Rattle.mj_app.specs.Say.{HasFixedText};
 ghost use Rattle.mj_app.specs.Call.{files_state, status_of, CallSays, EndSays, IsExact, PlayCall, RefusalEnds};
 ghost use Rattle.mj_app.specs.Headline.{HasHeadline, HasFirstHeadline};
 ghost use Rattle.mj_app.specs.Words.{command_of, Play as play_value};
 ghost use Rattle.mj_app.specs.WordsRead.{command_value};
 
+use crate::chronicle::model_call;
 use crate::formatting::format_store;
 use crate::play::play;
 use crate::read::{ReadRefusal, read_lines};
@@ -18,8 +19,8 @@ use mj_base::{Files, RankNo, Sink};
 use mj_store::ObjectStore;
 use std::alloc::Global;
 
-/// Does what the words say over a store that is first restarted, and hands the store back on every path: formats it, or plays a
-/// script as a rank. The number is that of the `Status` with which the call ends. No file is written.
+/// Does what the words say over a store that is first restarted, and hands the store back on every path: formats it, plays a script
+/// as a rank, or answers a chronicle by the plain tree. The number is that of the `Status` with which the call ends. No file is written.
 pub fn mdjournal_call<S: ObjectStore, F: Files, K: Sink>(
     alloc: Global,
     words: &[String],
@@ -60,6 +61,9 @@ fn carry_out<S: ObjectStore, F: Files, K: Sink>(
     match command {
         Command::Format { rank, layout } => format_store(alloc, rank, layout, store, out),
         Command::Play { rank, script } => play_call(alloc, rank, script, files, store, out),
+        Command::Model { rank, chronicle } => {
+            model_call(alloc, rank, chronicle, files, store, out)
+        }
     }
 }
 

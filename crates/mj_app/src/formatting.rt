@@ -1,7 +1,7 @@
 //! A store is formatted.
 
 ghost use Rattle.std.specs.Prelude.{◌≡◌, Some};
-ghost use Rattle.mj_app.specs.Took.{sink_state};
+ghost use Rattle.mj_model.specs.Took.{sink_state};
 ghost use Rattle.mj_app.specs.Formats.{FormatWork, FormatEnds, FormatCall, cut_status, format_status, why_not};
 
 use crate::say::{Unsaid, say_formatted, say_unformatted};

@@ -1,7 +1,7 @@
 //! The top call over an image file.
 
 ghost use Rattle.std.specs.Prelude.{◌≡◌, ◌≤◌, option_map};
-ghost use Rattle.mj_app.specs.Took.{sink_state};
+ghost use Rattle.mj_model.specs.Took.{sink_state};
 ghost use Rattle.mj_app.specs.Call.{files_state};
 ghost use Rattle.mj_app.specs.Image.{ImageSays, OverImage, EndsWithImage, UnreadEnds, UnwrittenEnds, image_status, image_words};
 

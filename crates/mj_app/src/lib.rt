@@ -1,8 +1,10 @@
-//! The program's top calls: a store is formatted, or a script is played over it, with files and a sink that may fail.
+//! The program's top calls: a store is formatted, a script is played over it, or a chronicle is answered by the plain tree, with files
+//! and a sink that may fail.
 #![tactic(auto)]
 
 mod answer;
 mod call;
+mod chronicle;
 mod formatting;
 mod image;
 mod image_file;

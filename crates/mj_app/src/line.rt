@@ -4,7 +4,7 @@ ghost use Rattle.std.specs.Prelude.{◌≡◌, ◌≤◌, IfOk};
 ghost use Rattle.mj_world.specs.World.{WorldSince};
 ghost use Rattle.mj_lines.specs.Line.{IsServed};
 ghost use Rattle.mj_app.specs.Answers.{IsTold, last_status};
-ghost use Rattle.mj_app.specs.Took.{sink_state};
+ghost use Rattle.mj_model.specs.Took.{sink_state};
 ghost use Rattle.mj_app.specs.Run.{TurnSays, WorksTo, LineRuns, answer_in, told_in};
 
 use crate::answer::{answer_of, answer_to};

@@ -1,7 +1,7 @@
 //! Numbers, as they stand in the words of a call.
 
 ghost use Rattle.std.specs.Prelude.{◌≡◌, ◌≤◌, IfSome};
-ghost use Rattle.mj_lines.specs.Number.{number_of, digits_in};
+ghost use Rattle.mj_texts.specs.Number.{number_of, digits_in};
 
 /// The number that a word spells: decimal, without a leading zero, and at most `most`.
 pub fn read_number(word: &[u8], most: u64) -> Option<u64>

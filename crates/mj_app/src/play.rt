@@ -2,7 +2,7 @@
 
 ghost use Rattle.std.specs.Prelude.{◌≡◌, ◌≤◌, [], All};
 ghost use Rattle.mj_lines.specs.Line.{IsServed};
-ghost use Rattle.mj_app.specs.Took.{sink_state};
+ghost use Rattle.mj_model.specs.Took.{sink_state};
 ghost use Rattle.mj_app.specs.Run.{StartEnds, RunSays, PlaySays};
 ghost use Rattle.mj_app.specs.Worlds.{Over};
 
@@ -55,8 +55,8 @@ fn play_restarted<S: ObjectStore, K: Sink>(
     (Status::Done, world.into_store())
 }
 
-// The restart before the first line has the number 0.
-fn fail_to_start<K: Sink>(alloc: Global, faults: u64, out: &mut K) -> Status
+/// Tells that the restart before the first line failed. It has the number 0.
+pub fn fail_to_start<K: Sink>(alloc: Global, faults: u64, out: &mut K) -> Status
     ensures { StartEnds result faults (sink_state K.taken K.faults out.old) (sink_state K.taken K.faults out.new) }
 {
     match say_answer(alloc, 0, &Answer::StoreFault(faults), out) {

@@ -1,8 +1,9 @@
 //! What a call prints.
 
 ghost use Rattle.std.specs.Prelude.{◌≡◌, ◌++◌, ◌∷◌, [], ◌≤◌, IsErrOf, OnOk};
-ghost use Rattle.mj_lines.specs.Text.{turn_text, numbered};
-ghost use Rattle.mj_app.specs.Took.{sink_state};
+ghost use Rattle.mj_lines.specs.Text.{turn_text};
+ghost use Rattle.mj_texts.specs.Text.{numbered};
+ghost use Rattle.mj_model.specs.Took.{sink_state};
 ghost use Rattle.mj_app.specs.Say.{refusal_text, image_text, formatted_text, unformatted_text, Prints, HasFixedText};
 
 use crate::read::ReadRefusal;
@@ -10,7 +11,8 @@ use mj_base::{RankNo, Sink, put_all};
 use mj_format::FormatRefusal;
 use mj_image::ImageRefusal;
 use mj_layout::Layout;
-use mj_lines::{Answer, append_numbers, append_turn};
+use mj_lines::{Answer, append_turn};
+use mj_texts::append_numbers;
 use std::alloc::Global;
 
 /// Why a text was not printed whole.

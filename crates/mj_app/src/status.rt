@@ -6,20 +6,20 @@ ghost use Rattle.mj_app.specs.Status.{code_of};
 /// How a call ends. The program exits with its code.
 #[derive(Clone, Copy, Debug, PartialEq, Eq)]
 pub enum Status {
-    /// Every line was worked, or the store was formatted, and all text was taken.
+    /// Every line was worked, or the store was formatted, or no reply of a chronicle differs, and all text was taken.
     Done,
     /// Damage was named, or the image is none.
     Damage,
     /// The words are not served.
     Words,
-    /// The store is formatted already.
+    /// The store is formatted already, or a reply of a chronicle differs.
     Refused,
     Memory,
     /// The store failed, or an operation is waited for.
     Store,
     /// A named file is missing or too long, the image to be written is too long, or the files failed.
     Files,
-    /// A line of the script is outside the grammar.
+    /// A line of the script or of the chronicle is outside the grammar.
     Grammar,
     /// The sink failed.
     Sink,

@@ -3,7 +3,7 @@
 ghost use Rattle.std.specs.Prelude.{◌≡◌, ◌==◌, ◌<◌, ◌^◌, ◌-◌, ◌≤◌, Some, IfSome, List, ℕ, map, length, position, option_map};
 ghost use Rattle.std.specs.String.{string_bytes};
 ghost use Rattle.mj_base.specs.InOrder.{same_bytes};
-ghost use Rattle.mj_app.specs.Words.{command_of, form_of, option_form, is_dashed, behind, set, once, given as given_spec, rank_of, value_or, layout_of, format_of, play_of, in_mode, Argument as argument_piece};
+ghost use Rattle.mj_app.specs.Words.{command_of, form_of, option_form, is_dashed, behind, set, once, given as given_spec, rank_of, value_or, layout_of, format_of, file_of, play_of, model_of, in_mode, Argument as argument_piece};
 ghost use Rattle.mj_app.specs.WordsRead.{command_value, given_value, reading_value, form_value, text_in, after_word, at_last};
 
 use crate::number::read_number;
@@ -17,6 +17,8 @@ pub enum Command<'a> {
     Format { rank: RankNo, layout: Layout },
     /// Play the script in the file of this name.
     Play { rank: RankNo, script: &'a str },
+    /// Answer the chronicle in the file of this name by the plain tree.
+    Model { rank: RankNo, chronicle: &'a str },
 }
 
 /// What a word looks like.
@@ -81,6 +83,8 @@ fn in_mode<'a>(mode: &str, given: Given<'a>) -> Option<Command<'a>>
         format_of(given)
     } else if mode == "play" {
         play_of(given)
+    } else if mode == "model" {
+        model_of(given)
     } else {
         None
     }
@@ -100,12 +104,27 @@ fn format_of<'a>(given: Given<'a>) -> Option<Command<'a>>
 fn play_of<'a>(given: Given<'a>) -> Option<Command<'a>>
     ensures { option_map command_value result ≡ play_of (given_value given.entry) }
 {
+    let script = file_of(given)?;
+    let rank = rank_of(given)?;
+    Some(Command::Play { rank, script })
+}
+
+fn model_of<'a>(given: Given<'a>) -> Option<Command<'a>>
+    ensures { option_map command_value result ≡ model_of (given_value given.entry) }
+{
+    let chronicle = file_of(given)?;
+    let rank = rank_of(given)?;
+    Some(Command::Model { rank, chronicle })
+}
+
+// The name of the one file, where no layout is given.
+fn file_of<'a>(given: Given<'a>) -> Option<&'a str>
+    ensures { text_in result ≡ file_of (given_value given.entry) }
+{
     if given.su.is_some() || given.sc.is_some() || given.os.is_some() {
         return None;
     }
-    let rank = rank_of(given)?;
-    let script = given.argument?;
-    Some(Command::Play { rank, script })
+    given.argument
 }
 
 fn rank_of(given: Given<'_>) -> Option<RankNo>

@@ -1,7 +1,2 @@
-pub mod SplitLemmas
-pub mod DigitsLemmas
-pub mod ScriptLemmas
-pub mod TextLemmas
-pub mod ObjectLemmas
-pub mod WordLemmas
 pub mod SpellingLemmas
+pub mod TextLemmas

@@ -1,18 +1,13 @@
 -- What a line of a script is answered with, as text.
-use Rattle.std.specs.Prelude.{ℕ, ◌==◌, if◌then◌else◌, List, [], ◌∷◌, ◌++◌, map, codes, Option, None, Some}
+use Rattle.std.specs.Prelude.{ℕ, ◌==◌, if◌then◌else◌, List, [], ◌∷◌, ◌++◌, codes, Option, None, Some}
 use Rattle.std.specs.Fmt.{decimal}
 use Rattle.mj_base.specs.Name.{escaped}
 use Rattle.mj_base.specs.ObjectName.{object_text}
 use Rattle.mj_base.specs.declared.damage.Damage.{Damage}
 use Rattle.mj_base.specs.declared.damage.Damage.TheVariants as damage
-use Rattle.mj_base.specs.declared.record.InodeRecord.{InodeRecord}
-use Rattle.mj_tree.specs.State.{attributes_of}
-use Rattle.mj_tree.specs.declared.request.Reply.{Reply}
-use Rattle.mj_tree.specs.declared.request.Reply.TheVariants as reply
 use Rattle.mj_base.specs.declared.object.ObjectName.{ObjectName}
-use Rattle.mj_tree.specs.Listing.{line, octal, attribute_words}
-use Rattle.mj_lines.specs.declared.text.Word.{Word}
-use Rattle.mj_lines.specs.declared.text.Word.TheVariants.{Text, Number, Object, Escaped, Mode}
+use Rattle.mj_tree.specs.Listing.{line}
+use Rattle.mj_texts.specs.Text.{reply_words}
 use Rattle.mj_lines.specs.declared.answer.Answer.{Answer}
 use Rattle.mj_lines.specs.declared.answer.Answer.TheVariants as answer
 use Rattle.mj_rank.specs.declared.answers.Early.{Early}
@@ -20,39 +15,9 @@ use Rattle.mj_rank.specs.declared.answers.Span.{Span}
 use Rattle.mj_rank.specs.declared.answers.Reaped.{Reaped}
 use Rattle.mj_rank.specs.declared.answers.Reaped.TheVariants as reaped
 
--- a word of a text
-abbrev pub word_text : Word → List ℕ
-word_text (Text text) = text.now
-word_text (Number n) = decimal n
-word_text (Object name) = object_text name
-word_text (Escaped bytes) = escaped bytes.now
-word_text (Mode mode) = octal mode
-
--- a line of these words
-abbrev pub line_text : List Word → List ℕ
-line_text ws = line (map word_text ws)
-
--- ---- replies
-
-abbrev pub found_words : InodeRecord → List (List ℕ)
-found_words r = codes "found" ∷ decimal r.ino ∷ attribute_words (attributes_of r) ++ decimal r.links ∷ []
-
-abbrev pub reply_words : Reply → List (List ℕ)
-reply_words (reply.Done i) = codes "done" ∷ decimal i ∷ []
-reply_words (reply.Error code) = codes "error" ∷ decimal code ∷ []
-reply_words (reply.Found r) = found_words r
-reply_words (reply.Names ns) = codes "names" ∷ map escaped ns
-reply_words (reply.Link target) = codes "target" ∷ escaped target ∷ []
-
 abbrev pub ends_words : Option ℕ → List (List ℕ)
 ends_words None = []
 ends_words (Some e) = codes "ends" ∷ decimal e ∷ []
-
--- a word and numbers
-abbrev pub numbered : List ℕ → List ℕ → List ℕ
-numbered word ns = line (word ∷ map decimal ns)
-
--- ---- answers
 
 -- an empty span is no write
 abbrev pub flushed_words : Span → List (List ℕ)
@@ -114,7 +79,8 @@ answer_text (answer.Reaped reaped) = line (reaped_words reaped)
 answer_text (answer.Mounted epoch tail) = line (codes "mounted" ∷ decimal epoch ∷ decimal tail ∷ [])
 answer_text (answer.WaitingFor op) = line (codes "waiting" ∷ decimal op ∷ [])
 answer_text answer.Restarted = line (codes "restarted" ∷ [])
-answer_text (answer.Listing text) = line (codes "tree" ∷ []) ++ text
+answer_text (answer.Tree text) = line (codes "tree" ∷ []) ++ text
+answer_text (answer.State text) = line (codes "state" ∷ []) ++ text
 answer_text answer.Stopped = line (codes "stopped" ∷ [])
 answer_text answer.AlreadyMounted = line (codes "mounted" ∷ [])
 answer_text (answer.LogFull b) = line (codes "logfull" ∷ decimal b ∷ [])

@@ -1,14 +1,14 @@
 //! What the lines of a script are answered with.
 
-ghost use Rattle.std.specs.Prelude.{◌≡◌, ◌++◌, OnOk};
+ghost use Rattle.std.specs.Prelude.{◌≡◌, ◌++◌, ◌∷◌, [], OnOk};
 ghost use Rattle.mj_tree.specs.Listing.{line};
 ghost use Rattle.mj_lines.specs.Text.{answer_text, turn_text, flushed_words, reaped_words, applied_words};
 
 use crate::damage::append_damage;
 use crate::reply::append_early;
-use crate::text::{Word, append_line, append_number, append_numbers};
 use mj_base::{Damage, Items, ObjectName, OpNo};
 use mj_rank::{Early, Reaped, Span};
+use mj_texts::{Word, append_line, append_number, append_numbers};
 use std::alloc::AllocError;
 
 /// What a line of a script is answered with.
@@ -25,7 +25,9 @@ pub enum Answer {
     WaitingFor(OpNo),
     Restarted,
     /// The tree of all requests that were accepted.
-    Listing(Items<u8>),
+    Tree(Items<u8>),
+    /// The same with the next inode and the sessions.
+    State(Items<u8>),
     /// No rank serves.
     Stopped,
     /// A rank serves or mounts already.
@@ -59,7 +61,8 @@ fn append_answer(answer: &Answer, out: &mut Vec<u8>) -> Result<(), AllocError>
         Answer::Mounted { epoch, tail } => { append_numbers("mounted", &[*epoch, *tail], out) }
         Answer::WaitingFor(op) => append_numbers("waiting", &[op.0], out),
         Answer::Restarted => append_numbers("restarted", &[], out),
-        Answer::Listing(text) => append_listing(text, out),
+        Answer::Tree(text) => append_listing("tree", text, out),
+        Answer::State(text) => append_listing("state", text, out),
         Answer::Stopped => append_numbers("stopped", &[], out),
         Answer::AlreadyMounted => append_numbers("mounted", &[], out),
         Answer::LogFull(bytes) => append_numbers("logfull", &[*bytes], out),
@@ -118,10 +121,10 @@ fn append_reaped(reaped: Reaped, out: &mut Vec<u8>) -> Result<(), AllocError>
     }
 }
 
-fn append_listing(text: &Items<u8>, out: &mut Vec<u8>) -> Result<(), AllocError>
-    ensures { OnOk result (out.new.items ≡ out.old.items ++ answer_text (Answer.Listing text.now)) }
+fn append_listing(word: &str, text: &Items<u8>, out: &mut Vec<u8>) -> Result<(), AllocError>
+    ensures { OnOk result (out.new.items ≡ out.old.items ++ (line (word.now ∷ []) ++ text.now)) }
 {
-    append_line(&[Word::Text("tree")], out)?;
+    append_line(&[Word::Text(word)], out)?;
     out.extend_from_slice(text.as_slice())?;
     Ok(())
 }

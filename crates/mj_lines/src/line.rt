@@ -2,10 +2,9 @@
 
 ghost use Rattle.std.specs.Prelude.{◌≡◌, IfOk, IfSome};
 ghost use Rattle.mj_lines.specs.Line.{line_of};
-ghost use Rattle.mj_lines.specs.Line.{of_words, is_blank, step_of, IsServed};
+ghost use Rattle.mj_lines.specs.Line.{of_words, is_blank, ask_of, step_of, IsServed};
 
-use crate::request::read_request;
-use crate::words::{Words, is_all_ascii, is_word, last};
+use mj_texts::{Words, is_all_ascii, is_word, last, read_request};
 use mj_world::Step;
 use std::alloc::{AllocError, Global};
 
@@ -50,6 +49,9 @@ fn read_words(alloc: Global, mut words: Words) -> Result<Option<Line>, AllocErro
     let Some(word) = words.next() else {
         return Ok(None);
     };
+    if is_word(word, "req") {
+        return read_ask(alloc, &mut words);
+    }
     if is_word(word, "mount") {
         return Ok(last(Line::Mount, &words));
     }
@@ -68,13 +70,20 @@ fn read_words(alloc: Global, mut words: Words) -> Result<Option<Line>, AllocErro
     if is_word(word, "tree") {
         return Ok(last(Line::One(Step::Tree), &words));
     }
-    if is_word(word, "req") {
-        return match read_request(alloc, &mut words)? {
-            Some(request) => Ok(Some(Line::One(Step::Ask(request)))),
-            None => Ok(None),
-        };
+    if is_word(word, "state") {
+        return Ok(last(Line::One(Step::State), &words));
     }
     Ok(None)
+}
+
+fn read_ask(alloc: Global, words: &mut Words) -> Result<Option<Line>, AllocError>
+    ensures line { IfOk result (λ line. line ≡ ask_of words.old) }
+    ensures served { IfOk result (λ line. IfSome line IsServed) }
+{
+    match read_request(alloc, words)? {
+        Some(request) => Ok(last(Line::One(Step::Ask(request)), words)),
+        None => Ok(None),
+    }
 }
 
 fn read_step(words: &mut Words) -> Option<Line>

@@ -5,11 +5,8 @@ ghost use Rattle.mj_lines.specs.Line.{IsServed};
 ghost use Rattle.mj_lines.specs.Script.{script_of, IsScriptRefusal};
 
 use crate::line::{Line, read_line};
-use crate::words::cut_at;
+use mj_texts::cut_at;
 use std::alloc::{AllocError, AllocFailed, Global};
-
-/// The most lines of a script.
-pub const MOST_LINES: usize = 1000;
 
 /// Why bytes are no script.
 #[derive(Clone, Copy, Debug, PartialEq, Eq)]
@@ -50,13 +47,9 @@ pub fn read_script(alloc: Global, bytes: &[u8]) -> Result<Vec<Line>, ScriptRefus
     let mut lines = Vec::new(alloc);
     let mut rest = bytes;
     'lines: while let Some((text, after)) = cut_at(rest, b'\n') {
-        let number = lines.len() as u64 + 1;
-        if lines.len() >= MOST_LINES {
-            return Err(ScriptRefusal::BadLine(number));
-        }
         match read_line(alloc, text)? {
             Some(line) => lines.push(line)?,
-            None => return Err(ScriptRefusal::BadLine(number)),
+            None => return Err(ScriptRefusal::BadLine(lines.len() as u64 + 1)),
         }
         rest = after;
     }

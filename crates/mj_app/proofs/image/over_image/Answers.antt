@@ -1,6 +1,6 @@
 use Rattle.std.proofs.Common.{inl, inr, ◌∙◌}
 use Rattle.mj_app.specs.Call.{files_state}
-use Rattle.mj_app.specs.Took.{sink_state}
+use Rattle.mj_model.specs.Took.{sink_state}
 use Rattle.mj_app.proofs.image.over_image.Goals as goal
 
 pub returns-in-Ok : goal.returns-in-Ok

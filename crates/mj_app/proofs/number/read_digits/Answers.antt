@@ -3,7 +3,7 @@ use Rattle.std.specs.Char.{digit_value}
 use Rattle.std.specs.Str.Parse.{digits_value}
 use Rattle.std.proofs.lemmas.Int.Digits.{digits_value_more}
 use Rattle.std.proofs.lemmas.List.{take_all}
-use Rattle.mj_lines.proofs.DigitsLemmas.{digits_in_great, digits_in_all, more_digits}
+use Rattle.mj_texts.proofs.DigitsLemmas.{digits_in_great, digits_in_all, more_digits}
 use Rattle.mj_app.proofs.number.read_digits.Goals as goal
 
 pub returns-in_err-checked_mul : goal.returns-in_err-checked_mul

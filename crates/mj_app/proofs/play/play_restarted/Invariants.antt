@@ -1,4 +1,4 @@
-use Rattle.mj_app.specs.Took.{sink_state}
+use Rattle.mj_model.specs.Took.{sink_state}
 use Rattle.mj_app.proofs.RunLemmas.{UpTo}
 use Rattle.mj_app.proofs.play.play_restarted.Given as goal
 

@@ -2,7 +2,7 @@ use Rattle.std.proofs.Common.{◌≡◌, ℕ, ◌+◌, ◌<◌, ◌≤◌, List,
 use Rattle.std.proofs.lemmas.List.{drop_all, drop_more}
 use Rattle.std.specs.Global.{Global}
 use Rattle.std.specs.String.{string_bytes}
-use Rattle.mj_lines.specs.Words.{◌>>=◌}
+use Rattle.mj_texts.specs.Words.{◌>>=◌}
 use Rattle.mj_app.specs.declared.words.Reading.{Reading}
 use Rattle.mj_app.specs.Words.{GivenValue}
 use Rattle.mj_app.specs.WordsRead.{ReadingValue, reading_value, after_word, at_last, behind_these}

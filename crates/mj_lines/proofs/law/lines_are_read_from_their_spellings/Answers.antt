@@ -3,5 +3,5 @@ use Rattle.mj_lines.proofs.law.lines_are_read_from_their_spellings.Goals as goal
 
 pub returns : goal.returns
 returns c =
-    let paths = c.paths_are_read_again.ensures in
-    record { takes = line_takes paths.takes paths.again; again = line_again paths.takes paths.again }
+    let requests = c.requests_are_read_from_their_spellings.ensures in
+    record { takes = line_takes requests.takes requests.again; again = line_again requests.takes requests.again }

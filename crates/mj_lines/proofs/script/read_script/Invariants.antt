@@ -1,13 +1,12 @@
 use Rattle.std.proofs.Common.{◌≡◌, ◌+◌, ◌==◌, length, vec_len}
-use Rattle.std.specs.List.{slice_split}
-use Rattle.std.specs.List.{All}
-use Rattle.mj_lines.specs.Line.{IsServed}
-use Rattle.mj_lines.specs.Script.{before, lines_from}
+use Rattle.std.specs.List.{slice_split, All}
+use Rattle.mj_texts.specs.Lines.{before, lines_from, lines_of}
+use Rattle.mj_lines.specs.Line.{IsServed, line_of}
 use Rattle.mj_lines.proofs.script.read_script.Given as goal
 
 abbrev pub invariant-lines : goal.invariant-lines
 invariant-lines l = record {
-  read : lines_from 1 (slice_split (λ b. b == 10) l.bytes) ≡ before l.lines.items (lines_from (vec_len l.lines + 1) (slice_split (λ b. b == 10) l.rest));
+  read : lines_of line_of l.bytes ≡ before l.lines.items (lines_from line_of (vec_len l.lines + 1) (slice_split (λ b. b == 10) l.rest));
   served : All IsServed l.lines.items;
 }
 

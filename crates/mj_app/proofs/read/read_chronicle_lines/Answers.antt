@@ -1,0 +1,6 @@
+use Rattle.mj_model.specs.Chronicle.{chronicle_of}
+use Rattle.mj_app.proofs.CallLemmas.{keeps_from_lines}
+use Rattle.mj_app.proofs.read.read_chronicle_lines.Goals as goal
+
+pub returns-in-Err-clause-refused : goal.returns-in-Err-clause-refused
+returns-in-Err-clause-refused g c = keeps_from_lines chronicle_of _ _ _ _ c.in-Err.refusal c.in-Err.ensures.refused

@@ -1,0 +1,2 @@
+pub mod TookLemmas
+pub mod ModelLemmas

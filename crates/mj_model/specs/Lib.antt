@@ -1,0 +1,4 @@
+pub mod Took
+pub mod Reply
+pub mod Chronicle
+pub mod Model
