@@ -11,7 +11,6 @@ mod image_file;
 mod laws;
 mod line;
 mod mount;
-mod number;
 mod play;
 mod read;
 mod say;

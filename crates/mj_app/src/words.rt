@@ -6,9 +6,9 @@ ghost use Rattle.mj_base.specs.InOrder.{same_bytes};
 ghost use Rattle.mj_app.specs.Words.{command_of, form_of, option_form, is_dashed, behind, set, once, given as given_spec, rank_of, value_or, layout_of, format_of, file_of, play_of, model_of, in_mode, Argument as argument_piece};
 ghost use Rattle.mj_app.specs.WordsRead.{command_value, given_value, reading_value, form_value, text_in, after_word, at_last};
 
-use crate::number::read_number;
 use mj_base::RankNo;
 use mj_layout::Layout;
+use mj_texts::read_number;
 
 /// What a call is to do.
 #[derive(Clone, Copy, Debug, PartialEq, Eq)]

@@ -2,20 +2,17 @@
 
 ghost use Rattle.std.specs.Prelude.{◌≡◌, IfOk};
 ghost use Rattle.mj_base.specs.Reading.{eight};
-ghost use Rattle.mj_base.specs.ObjectName.{stray_ino, first_ino};
 ghost use Rattle.mj_recovery.specs.Formatted.{formatted_header};
 ghost use Rattle.mj_format.specs.Formatting.{header_object};
 ghost use Rattle.mj_format.specs.Sending.{head_op, table_ops, header_op};
 
 use mj_base::{Items, ObjectName, RankNo, put_u64};
 use mj_layout::{Header, Layout, Phase, journal_object};
+use mj_recovery::{first_ino, stray_ino};
 use mj_store::{HeadAct, ObjectAct, ObjectOp};
 use std::alloc::{AllocError, Global};
 
 const ROOT_INO: u64 = 1;
-
-/// How many inode numbers a rank may give.
-const INOS: u64 = 1 << 40;
 
 /// The object with the header of a rank's journal.
 pub fn header_object(rank: RankNo) -> ObjectName
@@ -33,11 +30,11 @@ pub fn table_ops(alloc: Global, rank: RankNo) -> Result<Vec<ObjectOp>, AllocErro
         alloc,
         [
             directory(alloc, ROOT_INO)?,
-            directory(alloc, stray_ino(rank))?,
+            directory(alloc, stray_ino(rank).0)?,
             with_head(
                 alloc,
                 ObjectName::InoTable(rank),
-                HeadAct::Put(number_bytes(alloc, first_ino(rank))?),
+                HeadAct::Put(number_bytes(alloc, first_ino(rank).0)?),
             ),
             with_head(alloc, ObjectName::SessionMap(rank), HeadAct::Leave),
         ],
@@ -54,18 +51,6 @@ pub fn header_op(alloc: Global, rank: RankNo, layout: Layout) -> Result<ObjectOp
         name: header_object(rank),
         act: ObjectAct::Write { at: 0, bytes },
     })
-}
-
-fn stray_ino(rank: RankNo) -> u64
-    ensures { result ≡ stray_ino rank }
-{
-    0x600 + 10 * rank.number() as u64
-}
-
-fn first_ino(rank: RankNo) -> u64
-    ensures { result ≡ first_ino rank }
-{
-    (rank.number() as u64 + 1) * INOS
 }
 
 fn first_header(layout: Layout) -> Header

@@ -1,7 +1,6 @@
 //! The cells of a new rank.
 
 ghost use Rattle.std.specs.Prelude.{◌≡◌, IfOk};
-ghost use Rattle.mj_base.specs.ObjectName.{first_ino};
 ghost use Rattle.mj_cells.specs.declared.cell.CellKey.TheVariants.{DirHead};
 ghost use Rattle.mj_cells.specs.declared.cell.CellValue.TheVariants.{Number};
 ghost use Rattle.mj_cells.specs.Table.{table_of};
@@ -10,17 +9,9 @@ ghost use Rattle.mj_delta.specs.Fresh.{fresh_table};
 
 use mj_base::{Ino, RankNo};
 use mj_cells::{CellKey, CellTable, CellValue, CellWrite};
-use mj_judge::{ROOT, stray_ino};
+use mj_judge::ROOT;
+use mj_recovery::{first_ino, stray_ino};
 use std::alloc::{AllocError, Global};
-
-/// How many inode numbers a rank may give.
-const INOS: u64 = 1 << 40;
-
-fn first_ino(rank: RankNo) -> u64
-    ensures { result ≡ first_ino rank }
-{
-    (u64::from(rank.number()) + 1) * INOS
-}
 
 // The head of a directory without names.
 fn head(dir: Ino) -> CellWrite
@@ -43,7 +34,7 @@ pub fn new_cells(alloc: Global, rank: RankNo) -> Result<CellTable, AllocError>
         alloc,
         CellWrite {
             key: CellKey::NextIno,
-            value: CellValue::Number(first_ino(rank)),
+            value: CellValue::Number(first_ino(rank).0),
         },
     )?;
     Ok(cells)

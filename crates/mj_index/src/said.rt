@@ -9,7 +9,8 @@ ghost use Rattle.mj_index.specs.Said.{full_said, full_inode, dir_named, open_ino
 use crate::known::KnownInodes;
 use mj_base::{Ino, InodeRecord, RankNo};
 use mj_cells::{CellKey, CellValue};
-use mj_judge::{dir_of, ino_in, stray_ino, subdir_in};
+use mj_judge::{dir_of, ino_in, subdir_in};
+use mj_recovery::stray_ino;
 
 /// The directory of a dentry that is there.
 pub fn dentry_dir(key: &CellKey, value: &CellValue) -> Option<Ino>

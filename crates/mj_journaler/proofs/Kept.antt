@@ -7,20 +7,14 @@ use Rattle.mj_base.specs.Reading.{eight}
 use Rattle.mj_base.proofs.Codec.{true_and}
 use Rattle.mj_entry.specs.Entry.{IsPayload, entry_bytes, entry_length}
 use Rattle.mj_layout.specs.Striping.{Striping, IsStriping, period}
-use Rattle.mj_layout.specs.Place.{unit_end, position_at}
-use Rattle.mj_layout.specs.Cutting.{IsCut}
+use Rattle.mj_layout.specs.Place.{unit_end}
 use Rattle.mj_layout.specs.Header.{IsHeader}
 use Rattle.mj_layout.specs.declared.Header.{Header}
 use Rattle.mj_layout.proofs.Striped.{Sizes, sizes}
-use Rattle.mj_layout.proofs.Placed.{placing}
-use Rattle.mj_base.specs.ObjectName.{journal_ino}
-use Rattle.mj_base.specs.declared.object.ObjectName.TheVariants.{File}
-use Rattle.mj_store.specs.declared.act.ObjectAct.TheVariants.{Truncate}
-use Rattle.mj_store.specs.declared.act.ObjectOp.{ObjectOp}
 use Rattle.mj_store.specs.Causes.{In}
 use Rattle.mj_journaler.specs.Outstanding.{Rises, Follow, final, lowest, found, without, last_end, ends_above}
 use Rattle.mj_journaler.specs.Journal.{Journal, layout_of, end_of, unsafe_of, window_of, flush_end, first_set, standing_set, trimmed_of}
-use Rattle.mj_journaler.specs.Keeps.{IsJournal, Continues, MaySend, IsLast, IsDone, Truncates, IsBelowTail}
+use Rattle.mj_journaler.specs.Keeps.{IsJournal, Continues, MaySend, IsLast, IsDone}
 use Rattle.mj_journaler.specs.Calls.{begun, append_refusal, appended, reserved, header_now, offered, taken, acked_to, expire_of, acknowledged}
 use Rattle.mj_journaler.specs.declared.AppendRefusal.TheVariants.{Full, Spent}
 use Rattle.mj_journaler.specs.declared.sent.Sent.{Sent}
@@ -489,23 +483,3 @@ payload_some payload h = leb-true 1 (length payload) (true_and (nat_le 1 (length
 
 pub room_left : (room buffer new e : ℕ) → room ≤ buffer → (e ≤ buffer → buffer ≤ new + e) → room - e ≤ new
 room_left room buffer new e h f = elim (cases_lt buffer e) [ inl less ↦ omega (arith, less, h) | inr more ↦ omega (arith, f more, h) ]
-
--- ---- the stale tail
-
-pub below_tail : (j : Journal) (index len size : ℕ) → IsJournal j → IsCut (layout_of j) index j.tail len → min size (layout_of j).os ≤ len → IsBelowTail j index size
-below_tail j index len size k cut h = λ x e le. omega (arith, cut.above x e le, (placing (layout_of j) k.layout).within x, h)
-
-pub truncates : (j : Journal) (index len size : ℕ) (op : ObjectOp) → IsJournal j → IsCut (layout_of j) index j.tail len → len < min size (layout_of j).os → op ≡ record { name = File (journal_ino j.rank) index; act = Truncate len } → Truncates j index size op
-truncates j index len size op k cut h is =
-    let s = layout_of j in
-    let x = position_at s index len in
-    let back = (placing s k.layout).back index len (omega (arith, h)) in
-    record {
-      len = len;
-      cut = cut;
-      is = is;
-      byte = x;
-      there = back.0;
-      above = elim (cases_lt x j.tail) as (λ _. j.tail ≤ x) [ inl less ↦ absurd (omega (arith, cut.below x back.0 less, back.1)) | inr more ↦ more ];
-      held = omega (arith, back.1, h);
-    }

@@ -2,6 +2,7 @@ mod Blocks
 mod Rings
 mod Room
 pub mod Out
+pub mod Cuts
 pub mod Kept
 mod Newer
 pub mod Both

@@ -2,13 +2,7 @@
 use Rattle.std.specs.Prelude.{◌≡◌, ◌⊎◌, ℕ, ◌+◌, ◌*◌, ◌/◌, ◌^◌, ◌<◌, ◌≤◌, Option, None, Some, List}
 use Rattle.mj_layout.specs.Striping.{IsStriping, period}
 use Rattle.mj_layout.specs.declared.Header.{Header}
-use Rattle.mj_base.specs.ObjectName.{journal_ino}
-use Rattle.mj_base.specs.declared.object.ObjectName.TheVariants.{File}
-use Rattle.mj_layout.specs.Place.{object_of, offset_of}
-use Rattle.mj_layout.specs.Cutting.{IsCut}
 use Rattle.mj_store.specs.Causes.{In}
-use Rattle.mj_store.specs.declared.act.ObjectAct.TheVariants.{Truncate}
-use Rattle.mj_store.specs.declared.act.ObjectOp.{ObjectOp}
 use Rattle.mj_journaler.specs.Journal.{Journal, layout_of, end_of, unsafe_of, window_of, flush_end}
 use Rattle.mj_journaler.specs.Outstanding.{Rises, Follow, final}
 use Rattle.mj_journaler.specs.declared.sent.Sent.{Sent}
@@ -61,17 +55,3 @@ pub record IsDone (j : Journal) (op at : ℕ) : Type 0 where
   pub above : j.safe ≤ at
   pub within : at ≤ j.flushed
   pub below : (w : Sent) → In w j.sent → (at ≤ w.from) ⊎ (w.op ≡ op)
-
--- an operation that cuts an object to the part that stands below the tail, where a byte of it is at or above that
-pub record Truncates (j : Journal) (index size : ℕ) (op : ObjectOp) : Type 0 where
-  pub len : ℕ
-  pub cut : IsCut (layout_of j) index j.tail len
-  pub is : op ≡ record { name = File (journal_ino j.rank) index; act = Truncate len }
-  pub byte : ℕ
-  pub there : object_of (layout_of j) byte ≡ index
-  pub above : j.tail ≤ byte
-  pub held : offset_of (layout_of j) byte < size
-
--- no byte of an object of this size is at or above the tail
-abbrev pub IsBelowTail : Journal → ℕ → ℕ → Type 0
-IsBelowTail j index size = (x : ℕ) → object_of (layout_of j) x ≡ index → j.tail ≤ x → size ≤ offset_of (layout_of j) x

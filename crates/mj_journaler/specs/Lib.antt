@@ -4,4 +4,5 @@ pub mod Ring
 pub mod Journal
 pub mod Keeps
 pub mod Calls
+pub mod Cutting
 pub mod Inside

@@ -12,13 +12,15 @@ ghost use Rattle.mj_store.specs.declared.act.ObjectAct.TheVariants.{Write};
 ghost use Rattle.mj_journaler.specs.Outstanding.{last_end, ends_above};
 ghost use Rattle.mj_journaler.specs.Journal.{Journal, layout_of, end_of, unsafe_of, window_of, flush_end, first_set, trimmed_of, IsNew};
 ghost use Rattle.mj_journaler.specs.Calls.{begun, journal_object, append_refusal, append_both_refusal, TakesBoth, appended, reserved, flush_of, head_of, header_now, removal_of, offer_op, offered, taken, sent_on, acked_to, expire_of, acknowledged, earlier, write_out, head_out, removal_out, oldest_sent};
-ghost use Rattle.mj_journaler.specs.Keeps.{MaySend, IsLast, IsDone, Truncates, IsBelowTail};
+ghost use Rattle.mj_journaler.specs.Keeps.{MaySend, IsLast, IsDone};
+ghost use Rattle.mj_journaler.specs.Cutting.{IsBelowTail, Truncates};
 ghost use Rattle.mj_journaler.specs.Ring.{spare};
 ghost use Rattle.mj_journaler.specs.declared.AppendRefusal.TheVariants.{Memory};
 ghost use Rattle.mj_journaler.specs.declared.sent.Offer.TheVariants.{Flush, Head, Removal};
 
 use crate::buffer::Buffer;
 use crate::copying::copied;
+use crate::cutting::tail_cut;
 use crate::ring::Ring;
 use crate::sent::{Offer, Sent};
 use crate::{Acked, AppendRefusal};
@@ -466,17 +468,9 @@ impl Journaler {
     /// The operation that cuts an object of this size to what stands below the tail. None comes exactly where no byte of
     /// it is at or above the tail.
     pub fn tail_truncate(&self, index: u64, size: u64) -> Option<ObjectOp>
-        ensures { MatchOption result (IsBelowTail self.now index size) (Truncates self.now index size) }
+        ensures { MatchOption result (IsBelowTail (layout_of self.now) self.now.tail index size) (Truncates self.now.rank (layout_of self.now) self.now.tail index size) }
     {
-        let layout = &self.header.layout;
-        let len = layout.front_below(index, self.tail);
-        if size.min(layout.os() as u64) <= len as u64 {
-            return None;
-        }
-        Some(ObjectOp {
-            name: journal_object(self.rank, index),
-            act: ObjectAct::Truncate { len: len as u64 },
-        })
+        tail_cut(self.rank, &self.header.layout, self.tail, index, size)
     }
 }
 

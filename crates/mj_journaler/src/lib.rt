@@ -7,10 +7,12 @@ ghost use Rattle.mj_journaler.specs.declared.AppendRefusal.TheVariants.{Memory a
 
 mod buffer;
 mod copying;
+mod cutting;
 mod journaler;
 mod ring;
 mod sent;
 
+pub use cutting::tail_cut;
 pub use journaler::{Journaler, LAST_END, MOST_UNSAFE};
 pub use sent::{Offer, Sent};
 use std::alloc::AllocError;

@@ -10,15 +10,9 @@ ghost use Rattle.mj_judge.specs.Rows.{full_in, full_ino, kind_ino, link_ino, lin
 use crate::parts::{dir_of, ino_in};
 use mj_base::{Ino, InodeRecord, Kind, RankNo};
 use mj_cells::{CellKey, CellValue, CellView};
+use mj_recovery::stray_ino;
 use std::alloc::{AllocError, Global};
 use std::collections::BTreeSet;
-
-/// The stray directory of a rank.
-pub fn stray_ino(rank: RankNo) -> Ino
-    ensures { result ≡ stray_ino rank }
-{
-    Ino(0x600 + 10 * u64::from(rank.number()))
-}
 
 /// Whether a directory is one of these.
 #[tactic(auto, using(crate::proofs::Passes::contains_is))]

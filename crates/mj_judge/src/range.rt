@@ -2,23 +2,17 @@
 
 ghost use Rattle.std.specs.Prelude.{◌≡◌, ◌++◌, map, filter, filter_map, not, IfOk, OnOk};
 ghost use Rattle.mj_base.specs.InOrder.{same_bytes};
-ghost use Rattle.mj_base.specs.ObjectName.{hex, first_ino};
+ghost use Rattle.mj_base.specs.ObjectName.{hex};
 ghost use Rattle.mj_cells.specs.Next.{cell_of};
 ghost use Rattle.mj_recovery.specs.Damage.{is_given, is_known, low_next};
 ghost use Rattle.mj_judge.specs.Rows.{misnamed_ino};
 
-use crate::dentries::stray_ino;
 use crate::parts::ino_in;
 use crate::reach::ROOT;
 use mj_base::{Ino, Name, RankNo};
 use mj_cells::{CellKey, CellView};
+use mj_recovery::{first_ino, stray_ino};
 use std::alloc::{AllocError, Global};
-
-fn first_ino(rank: RankNo) -> Ino
-    ensures { result ≡ first_ino rank }
-{
-    Ino((u64::from(rank.number()) + 1) << 40)
-}
 
 fn is_given(rank: RankNo, next: Ino, ino: Ino) -> bool
     ensures { result ≡ is_given rank next ino }

@@ -10,12 +10,13 @@ ghost use Rattle.mj_judge.specs.Kinds.{is_kind};
 ghost use Rattle.mj_judge.specs.Rows.{count_in, is_counted, miscounted_ino, lone_ino, replies_badly, oldest_at, version_at, kept_of, over_dirs};
 
 use crate::counts::Counts;
-use crate::dentries::{full_in, is_dir, stray_ino};
+use crate::dentries::{full_in, is_dir};
 use crate::kinds::Kinds;
 use crate::parts::number_at;
 use crate::reach::ROOT;
 use mj_base::{ClientId, Ino, RankNo, Tid};
 use mj_cells::{CellKey, CellValue, CellView};
+use mj_recovery::stray_ino;
 use mj_tables::Layers;
 use std::alloc::{AllocError, Global};
 use std::collections::BTreeSet;

@@ -19,7 +19,7 @@ use mj_base::{Ino, InodeRecord, Kind, Name, RankNo};
 use mj_cache::Cache;
 use mj_cells::CellValue;
 use mj_decide::{dentry_at, is_dir};
-use mj_judge::stray_ino;
+use mj_recovery::stray_ino;
 use std::alloc::{AllocError, Global};
 use std::collections::BTreeMap;
 

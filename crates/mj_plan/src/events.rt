@@ -21,8 +21,8 @@ use mj_base::{ClientId, Ino, Items, Name};
 use mj_cache::Cache;
 use mj_decide::{has_tree, is_open, kept_tids, link_count, next_ino};
 use mj_event::{Event, SessionEvent, SessionKind};
-use mj_judge::stray_ino;
 use mj_meta::DirLump;
+use mj_recovery::stray_ino;
 use mj_tree::{Attributes, Change, ClientRequest, Decision, Settings};
 use std::alloc::{AllocError, Global};
 

@@ -1,5 +1,5 @@
 -- What a mount looks at, and what it cuts off above the tail.
-use Rattle.std.proofs.Common.{◌≡◌, ◌⊎◌, inl, inr, ℕ, ◌+◌, ◌*◌, ◌^◌, ◌<◌, ◌≤◌, min, max, List, [], ◌∷◌, Option, Some, None, refl, sym, ap, subst, ◌∙◌, arith}
+use Rattle.std.proofs.Common.{◌≡◌, ◌⊎◌, inl, inr, ℕ, ◌+◌, ◌*◌, ◌^◌, ◌<◌, ◌≤◌, max, List, [], ◌∷◌, Option, Some, None, refl, sym, ap, subst, ◌∙◌, arith}
 use Rattle.std.specs.Prelude.{option_map, unwrap_or, ◌==◌, not, length}
 use Rattle.std.proofs.lemmas.Bool.{cases_lt, cases_eq, eq-eqb, ne_eqb, cond-true, cond-false}
 use Rattle.std.proofs.lemmas.Nat.{le-div, mul-le}
@@ -13,39 +13,19 @@ use Rattle.mj_store.specs.Moves.{Moves, HasSize, Stays}
 use Rattle.mj_store.proofs.Paths.{moves_keep}
 use Rattle.mj_layout.specs.Striping.{Striping, IsStriping, period}
 use Rattle.mj_layout.specs.Placing.{set_of}
-use Rattle.mj_layout.specs.Place.{position_at}
-use Rattle.mj_layout.specs.Cutting.{IsCut}
 use Rattle.mj_layout.proofs.Striped.{sizes}
-use Rattle.mj_layout.proofs.Placed.{placing, div_rises}
+use Rattle.mj_layout.proofs.Placed.{div_rises}
 use Rattle.mj_recovery.specs.Stream.{journal_object}
 use Rattle.mj_recovery.specs.Orderly.{window_end}
 use Rattle.mj_facts.specs.Ranks.{Cutting, Mount, tail_of}
-use Rattle.mj_facts.specs.Calls.{cut_op, held_size, IsShort, IsNear}
+use Rattle.mj_facts.specs.Calls.{held_size, IsShort, IsNear}
+use Rattle.mj_journaler.specs.Cutting.{IsBelowTail, Truncates}
 use Rattle.mj_rank.specs.declared.cutting.Cut.{Cut}
-use Rattle.mj_rank.specs.Cutting.{near_end, IsBelowTail, Truncates, Passes, Finds, cuttings, cutting_of, sent_cuts, without_cut}
+use Rattle.mj_rank.specs.Cutting.{near_end, Passes, Finds, cuttings, cutting_of, sent_cuts, without_cut}
 use Rattle.mj_rank.specs.Cutting.Passes.{Nothing, More}
 use Rattle.mj_rank.proofs.StillReads.{stays_itself, stays_then}
 
 -- ---- one object
-
--- it needs no truncation
-pub is_below : (l : Striping) (tail index len size : ℕ) → IsStriping l → IsCut l index tail len → min size l.os ≤ len → IsBelowTail l tail index size
-is_below l tail index len size ok cut h = record { len = len; cut = cut; none = λ x e up. omega (arith, cut.above x e up, (placing l ok).within x, h) }
-
--- or it does
-pub is_above : (rank : ℕ) (l : Striping) (tail index len size : ℕ) (op : ObjectOp) → IsStriping l → IsCut l index tail len → len < min size l.os → op ≡ cut_op rank index len → Truncates rank l tail index size op
-is_above rank l tail index len size op ok cut h is =
-    let x = position_at l index len in
-    let back = (placing l ok).back index len (omega (arith, h)) in
-    record {
-      len = len;
-      cut = cut;
-      is = is;
-      byte = x;
-      there = back.0;
-      above = elim (cases_lt x tail) as (λ _. tail ≤ x) [ inl less ↦ absurd (omega (arith, cut.below x back.0 less, back.1)) | inr more ↦ more ];
-      held = omega (arith, back.1, h);
-    }
 
 size_is : (held : Option Content) → held_size held ≡ unwrap_or (option_map (λ (o : Content). length o.bytes) held) 0
 size_is None = refl

@@ -30,7 +30,8 @@ use Rattle.mj_rank.specs.declared.mounting.Stage.TheVariants.{Announcing, Announ
 use Rattle.mj_rank.specs.declared.rank.Rank.{Rank}
 use Rattle.mj_rank.specs.declared.refusal.MountRefusal.{MountRefusal}
 use Rattle.mj_rank.specs.Finding.{found_in, IsFound}
-use Rattle.mj_rank.specs.Cutting.{Passes, IsBelowTail, without_cut, sent_cuts}
+use Rattle.mj_journaler.specs.Cutting.{IsBelowTail}
+use Rattle.mj_rank.specs.Cutting.{Passes, without_cut, sent_cuts}
 use Rattle.mj_rank.specs.Request.{RankValue, value_of}
 use Rattle.mj_rank.specs.Mounts.{MountValue, mount_value, header_op, first_value, sent_at, sent_of, LooksTo, HasLooked, SendsAt, AwaitsAt, phase_at, next_stage, acked_stage, acked_out, SendsHeader, SendsCut, TakesAck, AwaitsMore, NotDone, IsHeldUp, MountSteps}
 use Rattle.mj_rank.specs.Flight.{AreOut}

@@ -29,7 +29,8 @@ use Rattle.mj_rank.specs.declared.cutting.Cut.{Cut}
 use Rattle.mj_rank.specs.declared.mounting.Mounting as mounting
 use Rattle.mj_rank.specs.declared.mounting.Stage.{Stage}
 use Rattle.mj_rank.specs.declared.mounting.Stage.TheVariants.{Announcing, Announced, Cutting, Opened, Ready}
-use Rattle.mj_rank.specs.Cutting.{IsBelowTail, cuttings, cutting_of, without_cut}
+use Rattle.mj_journaler.specs.Cutting.{IsBelowTail}
+use Rattle.mj_rank.specs.Cutting.{cuttings, cutting_of, without_cut}
 use Rattle.mj_rank.specs.Mounts.{MountValue, mount_value, sent_of, first_of, oldest_of}
 use Rattle.mj_rank.specs.Flight.{HasCompleted}
 use Rattle.mj_rank.specs.Live.{LeavesFronts, IsNewStore, HasCut, Mounted, OnItsWay, MountLives, Rested, StopLives, StopsSafely, Recovers}

@@ -1,17 +1,16 @@
 -- Which objects of the journal a mount looks at, and what it cuts off above the tail.
-use Rattle.std.specs.Prelude.{◌≡◌, ℕ, ◌+◌, ◌*◌, ◌<◌, ◌≤◌, ◌==◌, not, List, [], map, filter, Option, Some, None, unwrap_or}
+use Rattle.std.specs.Prelude.{◌≡◌, ℕ, ◌+◌, ◌*◌, ◌<◌, ◌==◌, not, List, [], map, filter, Option, Some, None, unwrap_or}
 use Rattle.mj_base.specs.declared.object.ObjectName.{ObjectName}
 use Rattle.mj_store.specs.declared.act.ObjectOp.{ObjectOp}
 use Rattle.mj_store.specs.State.{StoreState}
 use Rattle.mj_store.specs.Moves.{Moves, HasSize}
 use Rattle.mj_layout.specs.Striping.{Striping}
 use Rattle.mj_layout.specs.Placing.{set_of}
-use Rattle.mj_layout.specs.Place.{object_of, offset_of}
-use Rattle.mj_layout.specs.Cutting.{IsCut}
 use Rattle.mj_recovery.specs.Stream.{journal_object}
 use Rattle.mj_recovery.specs.Orderly.{window_end}
 use Rattle.mj_facts.specs.Calls.{cut_op}
 use Rattle.mj_facts.specs.Ranks.{Cutting}
+use Rattle.mj_journaler.specs.Cutting.{IsBelowTail, Truncates}
 use Rattle.mj_rank.specs.declared.cutting.Cut.{Cut}
 
 -- ---- the objects near the tail
@@ -25,22 +24,6 @@ abbrev pub near_end : Striping → ℕ → ℕ
 near_end l tail = (set_of l (window_end l tail) + 1) * l.sc
 
 -- ---- what is to be cut
-
--- no byte of an object of this size is at or above the tail
-pub record IsBelowTail (l : Striping) (tail index size : ℕ) : Type 0 where
-  pub len : ℕ
-  pub cut : IsCut l index tail len
-  pub none : (x : ℕ) → object_of l x ≡ index → tail ≤ x → size ≤ offset_of l x
-
--- an operation that cuts an object to the part that stands below the tail, where a byte of it is at or above that
-pub record Truncates (rank : ℕ) (l : Striping) (tail index size : ℕ) (op : ObjectOp) : Type 0 where
-  pub len : ℕ
-  pub cut : IsCut l index tail len
-  pub is : op ≡ cut_op rank index len
-  pub byte : ℕ
-  pub there : object_of l byte ≡ index
-  pub above : tail ≤ byte
-  pub held : offset_of l byte < size
 
 -- an object of the journal is cut
 pub record IsTruncation (rank index : ℕ) (op : ObjectOp) : Type 0 where

@@ -1,6 +1,6 @@
 //! The objects of a journal near its tail, and what a mount cuts off of them.
 
-ghost use Rattle.std.specs.Prelude.{◌≡◌, ◌<◌, ◌≤◌, ◌+◌, ◌∷◌, ◌++◌, ◌^◌, [], IfOk, OnOk, IfErr, OnErr, MatchOption, vec_len};
+ghost use Rattle.std.specs.Prelude.{◌≡◌, ◌<◌, ◌≤◌, ◌+◌, ◌∷◌, ◌++◌, ◌^◌, [], IfOk, OnOk, IfErr, OnErr, vec_len};
 ghost use Rattle.std.specs.Vec.{vec_capacity};
 ghost use Rattle.mj_store.specs.Causes.{IsCounted};
 ghost use Rattle.mj_store.specs.Moves.{Stays};
@@ -9,8 +9,9 @@ ghost use Rattle.mj_layout.specs.Placing.{set_of};
 ghost use Rattle.mj_recovery.specs.Orderly.{window_end};
 
 use mj_base::{ObjectName, OpNo, RankNo};
+use mj_journaler::tail_cut;
 use mj_layout::{Layout, journal_object};
-use mj_store::{ObjectAct, ObjectOp, ObjectStore, StoreFault};
+use mj_store::{ObjectOp, ObjectStore, StoreFault};
 use std::alloc::{AllocError, Global};
 
 /// The last position.
@@ -108,7 +109,7 @@ fn set_of(layout: &Layout, position: u64) -> u64
     position / layout.period()
 }
 
-ghost use Rattle.mj_rank.specs.Cutting.{IsBelowTail, Truncates, Looks};
+ghost use Rattle.mj_rank.specs.Cutting.{Looks};
 
 /// Asks the objects of a journal for their sizes, from one number up to another, as far as the first that has a byte at or above
 /// the tail: that one, and the operation that cuts it.
@@ -129,31 +130,9 @@ pub fn look<S: ObjectStore>(
 {
     for index in from..end {
         let size = store.size(&journal_object(number, index))?;
-        if let Some(op) = tail_truncate(number, layout, tail, index, size.unwrap_or(0)) {
+        if let Some(op) = tail_cut(number, layout, tail, index, size.unwrap_or(0)) {
             return Ok(Some((index, op)));
         }
     }
     Ok(None)
-}
-
-/// The operation that cuts an object of this size to what stands below the tail. None comes exactly where no byte of it is at or
-/// above the tail.
-fn tail_truncate(
-    number: RankNo,
-    layout: &Layout,
-    tail: u64,
-    index: u64,
-    size: u64,
-) -> Option<ObjectOp>
-    ensures { MatchOption result (IsBelowTail layout.now tail index size) (Truncates number layout.now tail index size) }
-{
-    layout.is_sound();
-    let len = layout.front_below(index, tail);
-    if size.min(layout.os() as u64) <= len as u64 {
-        return None;
-    }
-    Some(ObjectOp {
-        name: journal_object(number, index),
-        act: ObjectAct::Truncate { len: len as u64 },
-    })
 }

@@ -3,6 +3,7 @@
 
 mod bad;
 mod cells;
+mod inos;
 mod journal;
 mod judge;
 mod laws;
@@ -20,6 +21,7 @@ mod stream;
 mod tests;
 
 pub use cells::{Cells, HeldDentry, HeldEntry};
+pub use inos::{first_ino, stray_ino};
 pub use journal::{Entries, LiveEvent, LiveJournal};
 pub use laws::{
     formatted_store_begins, last_write_counts, one_recovery, one_tree_per_table,

@@ -15,7 +15,8 @@ ghost use Rattle.mj_recovery.specs.Sorted.{with_unit};
 ghost use Rattle.mj_recovery.specs.Held.{dentry, entry, links_to, opens_of, kept_record, table_in};
 
 use crate::cells::{Cells, HeldDentry, HeldEntry};
-use crate::reach::{is_among, stray_ino};
+use crate::inos::stray_ino;
+use crate::reach::is_among;
 use mj_base::{ClientId, Ino, InodeRecord, Items, RankNo, Tid};
 use mj_tree::{KeptReply, PlainLink, PlainOpen, PlainSession, PlainTree};
 use std::alloc::{AllocError, Global};

@@ -1,23 +1,15 @@
 //! The directories that can be reached.
 
 ghost use Rattle.std.specs.Prelude.{◌≡◌, map, length, OnOk, IfOk};
-ghost use Rattle.mj_base.specs.ObjectName.{stray_ino};
 ghost use Rattle.mj_recovery.specs.Tree.{is_among, subdir, dir_below, dirs_below, all_new, reached};
 ghost use Rattle.mj_recovery.specs.Held.{dentry, entry};
 
 use crate::cells::{HeldDentry, HeldEntry};
-use mj_base::{Ino, Kind, RankNo};
+use mj_base::{Ino, Kind};
 use std::alloc::{AllocError, Global};
 
 /// The root.
 pub const ROOT: Ino = Ino(1);
-
-/// The stray directory of a rank.
-pub fn stray_ino(rank: RankNo) -> Ino
-    ensures { result ≡ stray_ino rank }
-{
-    Ino(0x600 + 10 * u64::from(rank.number()))
-}
 
 /// Whether a directory is one of these.
 pub fn is_among(dirs: &[Ino], dir: Ino) -> bool

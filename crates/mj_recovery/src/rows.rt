@@ -2,14 +2,15 @@
 
 ghost use Rattle.std.specs.Prelude.{◌≡◌, ◌++◌, map, filter, filter_map, not, IfOk, OnOk};
 ghost use Rattle.mj_base.specs.InOrder.{same_bytes};
-ghost use Rattle.mj_base.specs.ObjectName.{hex, first_ino};
+ghost use Rattle.mj_base.specs.ObjectName.{hex};
 ghost use Rattle.mj_recovery.specs.Tree.{full_records};
 ghost use Rattle.mj_recovery.specs.Damage.{or_less, least, times, inos, headless, twice, is_full_of, lone_remote, miscounted, is_given, is_known, misnamed, low_next, out_of_range, replies, is_bad_reply, bad_replies, is_bad_open};
 ghost use Rattle.mj_recovery.specs.Held.{entry, links_to, value_in, file_in};
 
 use crate::cells::{HeldDentry, HeldEntry};
+use crate::inos::{first_ino, stray_ino};
 use crate::plain::{full_record, ino_of, links_to};
-use crate::reach::{ROOT, is_among, stray_ino};
+use crate::reach::{ROOT, is_among};
 use mj_base::{ClientId, Ino, InodeRecord, Kind, Name, RankNo, Tid};
 use mj_tree::PlainLink;
 use std::alloc::{AllocError, Global};
@@ -185,12 +186,6 @@ pub fn miscounted(
         }
     }
     Ok(found)
-}
-
-fn first_ino(rank: RankNo) -> Ino
-    ensures { result ≡ first_ino rank }
-{
-    Ino((u64::from(rank.number()) + 1) << 40)
 }
 
 fn is_given(rank: RankNo, next: Ino, ino: Ino) -> bool

@@ -1,13 +1,13 @@
 //! The directories of a journal's lumps.
 
 ghost use Rattle.std.specs.Prelude.{◌≡◌, ◌&&◌, ◌∷◌, [], ℕ, Some, true};
-ghost use Rattle.mj_base.specs.ObjectName.{first_ino};
 ghost use Rattle.mj_recovery.specs.Damage.{head_written, is_known};
 ghost use Rattle.mj_replay.specs.Lumps.{is_below, none_strange, lumps_known};
 
 use mj_base::{Ino, RankNo};
 use mj_cells::{CellKey, CellWrite};
-use mj_judge::{ROOT, stray_ino};
+use mj_judge::ROOT;
+use mj_recovery::{first_ino, stray_ino};
 
 /// What says, once the next inode is known, whether each directory of some lumps is the root, stray or one that the rank has given.
 #[derive(Clone, Copy, Debug)]
@@ -16,12 +16,6 @@ pub struct LumpDirs {
     strange: bool,
     /// The greatest of those that the rank may have given.
     greatest: Option<Ino>,
-}
-
-fn first_ino(rank: RankNo) -> Ino
-    ensures { result ≡ first_ino rank }
-{
-    Ino((u64::from(rank.number()) + 1) << 40)
 }
 
 fn is_below(next: Ino, greatest: Option<Ino>) -> bool

@@ -5,7 +5,8 @@ ghost use Rattle.mj_texts.specs.Number.{number_of, mode_of, digits_in};
 
 /// The number that a word spells: decimal, without a leading zero, and at most `most`.
 pub fn read_number(word: &[u8], most: u64) -> Option<u64>
-    ensures { result ≡ number_of most word.now }
+    ensures number { result ≡ number_of most word.now }
+    ensures small { IfSome result (λ n. n ≤ most) }
 {
     match word {
         [] => return None,
