@@ -209,6 +209,7 @@ impl Cache {
     {
         self.index.sums()
     }
+
     /// The early tree by lists alone.
     pub fn plain(&self, alloc: Global) -> Result<PlainTree, AllocError>
         ensures { IfOk result (λ tree. state_of tree ≡ early_tree self.now) }

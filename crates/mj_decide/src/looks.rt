@@ -9,10 +9,11 @@ ghost use Rattle.mj_cache.specs.Cached.{early_tree};
 ghost use Rattle.mj_decide.specs.HasTree.{HasTree};
 
 use crate::ranges::names_in;
-use crate::reads::{ROOT, is_dir, link_count, record};
+use crate::reads::{is_dir, link_count, record};
 use crate::walking::walk;
 use mj_base::{Ino, Kind, Path};
 use mj_cache::Cache;
+use mj_recovery::ROOT;
 use mj_tree::{
     Attributes, EINVAL, ENOENT, ENOTDIR, Reply, Stop, attributes_of, record_of, root_attributes,
 };

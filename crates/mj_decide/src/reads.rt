@@ -17,10 +17,8 @@ use crate::tree::has_tree;
 use mj_base::{ClientId, Ino, InodeRecord, Kind, Name, Tid};
 use mj_cache::Cache;
 use mj_cells::{CellKey, CellValue};
+use mj_recovery::ROOT;
 use std::alloc::{AllocError, Global};
-
-/// The inode of the root.
-pub const ROOT: Ino = Ino(1);
 
 // The number that a cell has.
 fn number(cache: &Cache, key: &CellKey) -> Option<u64>

@@ -7,9 +7,10 @@ ghost use Rattle.mj_tree.specs.Given.{Gives};
 ghost use Rattle.mj_cache.specs.Cached.{early_tree};
 ghost use Rattle.mj_decide.specs.HasTree.{HasTree};
 
-use crate::reads::{ROOT, is_dir, link_at};
+use crate::reads::{is_dir, link_at};
 use mj_base::{Ino, Name, Path};
 use mj_cache::Cache;
+use mj_recovery::ROOT;
 use mj_tree::{ENOENT, ENOTDIR, Errno, Stop};
 use std::alloc::Global;
 

@@ -8,11 +8,9 @@ ghost use Rattle.mj_format.specs.Sending.{head_op, table_ops, header_op};
 
 use mj_base::{Items, ObjectName, RankNo, put_u64};
 use mj_layout::{Header, Layout, Phase, journal_object};
-use mj_recovery::{first_ino, stray_ino};
+use mj_recovery::{ROOT, first_ino, stray_ino};
 use mj_store::{HeadAct, ObjectAct, ObjectOp};
 use std::alloc::{AllocError, Global};
-
-const ROOT_INO: u64 = 1;
 
 /// The object with the header of a rank's journal.
 pub fn header_object(rank: RankNo) -> ObjectName
@@ -29,7 +27,7 @@ pub fn table_ops(alloc: Global, rank: RankNo) -> Result<Vec<ObjectOp>, AllocErro
     let ops = Vec::from_array(
         alloc,
         [
-            directory(alloc, ROOT_INO)?,
+            directory(alloc, ROOT.0)?,
             directory(alloc, stray_ino(rank).0)?,
             with_head(
                 alloc,

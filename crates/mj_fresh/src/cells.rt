@@ -9,8 +9,7 @@ ghost use Rattle.mj_delta.specs.Fresh.{fresh_table};
 
 use mj_base::{Ino, RankNo};
 use mj_cells::{CellKey, CellTable, CellValue, CellWrite};
-use mj_judge::ROOT;
-use mj_recovery::{first_ino, stray_ino};
+use mj_recovery::{ROOT, first_ino, stray_ino};
 use std::alloc::{AllocError, Global};
 
 // The head of a directory without names.

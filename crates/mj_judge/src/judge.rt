@@ -13,13 +13,14 @@ use crate::counts::Counts;
 use crate::dentries::{dentry_dirs, full_inodes, kind_inodes, link_dirs, link_inodes};
 use crate::kinds::kinds_of;
 use crate::parts::{head_dirs, kept_replies, next_ino, opens, sessions};
-use crate::range::{push_low, push_misnamed, push_not_given, push_unknown};
 use crate::rows::{
-    bad_opens, bad_replies, clients_of, headless, kept_of, least, least_client, lone_remotes,
-    miscounted, opened_inodes, over_dirs, reply_clients, twice,
+    bad_opens, bad_replies, clients_of, headless, kept_of, lone_remotes, miscounted,
+    opened_inodes, over_dirs, reply_clients, twice,
 };
+use crate::stray::push_misnamed;
 use mj_base::{ClientId, Damage, Ino, Kind, RankNo};
 use mj_cells::CellView;
+use mj_recovery::{least, least_client, push_low, push_not_given, push_unknown};
 use mj_tables::Layers;
 use std::alloc::{AllocError, Global};
 use std::collections::BTreeSet;

@@ -7,13 +7,13 @@ mod dentries;
 mod judge;
 mod kinds;
 mod parts;
-mod range;
 mod reach;
 mod rows;
+mod stray;
 
 pub use counts::Counts;
 pub use damage::own_damage;
 pub use dentries::{full_in, is_dir, is_held};
 pub use judge::{entry_counts, kept_inodes, link_counts, open_counts};
 pub use parts::{dir_of, ino_in, kept_replies, next_ino, opens, sessions, subdir_in};
-pub use reach::{ROOT, reachable};
+pub use reach::reachable;

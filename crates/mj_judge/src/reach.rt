@@ -11,11 +11,9 @@ ghost use Rattle.mj_judge.specs.Reached.{edge_of, with_edge, unled, pass_dirs, p
 use crate::parts::{dir_of, subdir_in};
 use mj_base::Ino;
 use mj_cells::CellView;
+use mj_recovery::ROOT;
 use std::alloc::{AllocError, Global};
 use std::collections::BTreeSet;
-
-/// The root.
-pub const ROOT: Ino = Ino(1);
 
 fn edge_of(cell: &CellView<'_>) -> Option<(Ino, Ino)>
     ensures { result ≡ edge_of (cell_of cell.now) }

@@ -5,7 +5,7 @@ ghost use Rattle.mj_base.specs.ObjectName.{stray_ino};
 ghost use Rattle.mj_tree.specs.State.{root};
 ghost use Rattle.mj_cells.specs.Next.{cell_of};
 ghost use Rattle.mj_tables.specs.Layered.{early_cells};
-ghost use Rattle.mj_recovery.specs.Damage.{or_less, least, headless, bad_opens, client_of};
+ghost use Rattle.mj_recovery.specs.Damage.{headless, bad_opens, client_of};
 ghost use Rattle.mj_judge.specs.Kinds.{is_kind};
 ghost use Rattle.mj_judge.specs.Rows.{count_in, is_counted, miscounted_ino, lone_ino, replies_badly, oldest_at, version_at, kept_of, over_dirs};
 
@@ -13,55 +13,12 @@ use crate::counts::Counts;
 use crate::dentries::{full_in, is_dir};
 use crate::kinds::Kinds;
 use crate::parts::number_at;
-use crate::reach::ROOT;
 use mj_base::{ClientId, Ino, RankNo, Tid};
 use mj_cells::{CellKey, CellValue, CellView};
-use mj_recovery::stray_ino;
+use mj_recovery::{ROOT, stray_ino};
 use mj_tables::Layers;
 use std::alloc::{AllocError, Global};
 use std::collections::BTreeSet;
-
-fn or_less(n: Ino, found: Option<Ino>) -> Ino
-    ensures { result ≡ or_less n found }
-{
-    match found {
-        None => n,
-        Some(m) => { if m < n { m } else { n } }
-    }
-}
-
-/// The least of some inodes.
-#[tactic(auto, using(mj_recovery::proofs::Least::lesser_more, mj_recovery::proofs::Least::lesser_none))]
-pub fn least(inodes: &[Ino]) -> Option<Ino>
-    ensures { result ≡ least inodes.now }
-{
-    let mut found = None;
-    for n in inodes {
-        found = Some(or_less(*n, found));
-    }
-    found
-}
-
-fn or_less_client(n: ClientId, found: Option<ClientId>) -> ClientId
-    ensures { result ≡ or_less n found }
-{
-    match found {
-        None => n,
-        Some(m) => { if m < n { m } else { n } }
-    }
-}
-
-/// The least of some clients.
-#[tactic(auto, using(mj_recovery::proofs::Least::lesser_more, mj_recovery::proofs::Least::lesser_none))]
-pub fn least_client(clients: &[ClientId]) -> Option<ClientId>
-    ensures { result ≡ least clients.now }
-{
-    let mut found = None;
-    for n in clients {
-        found = Some(or_less_client(*n, found));
-    }
-    found
-}
 
 fn has_head(layers: &Layers, dir: Ino) -> bool
     ensures { result ≡ is_some (version_at (early_cells layers.now) dir) }

@@ -14,6 +14,7 @@ use mj_base::{Ino, Items, RankNo};
 use mj_entry::ENVELOPE;
 use mj_event::{Event, event_write};
 use mj_journaler::{AppendRefusal, Journaler};
+use mj_recovery::ROOT;
 use std::alloc::{AllocError, Global};
 
 /// The most events of a segment that still goes on, its map not counted.
@@ -34,7 +35,7 @@ fn subtree_map(alloc: Global, number: RankNo) -> Result<Event, AllocError>
     ensures event { IfOk result IsEvent }
 {
     let mut dirs = Vec::with_capacity(alloc, 2)?;
-    dirs.push(Ino(1))?;
+    dirs.push(ROOT)?;
     dirs.push(Ino(0x100 + number.number() as u64))?;
     Ok(Event::SubtreeMap(Items::from_vec(dirs)))
 }

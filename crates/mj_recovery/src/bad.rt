@@ -6,7 +6,7 @@ ghost use Rattle.mj_recovery.specs.Stored.{bad_pair};
 ghost use Rattle.mj_recovery.specs.Listed.{listed_bad};
 ghost use Rattle.mj_recovery.specs.ListedObjects.{is_bad_inotable, is_bad_sessionmap, listed_bad_table, listed_bad_key, listed_bad_dirfrag};
 
-use crate::rows::least;
+use crate::lowest::least;
 use crate::stored::{head_cell, pair_cell};
 use crate::stream::find;
 use mj_base::{Damage, Ino, Items, ObjectName, RankNo};

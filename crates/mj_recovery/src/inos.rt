@@ -1,9 +1,12 @@
-//! The inode numbers that a rank owns.
+//! The inode numbers that a rank begins with.
 
 ghost use Rattle.std.specs.Prelude.{◌≡◌};
 ghost use Rattle.mj_base.specs.ObjectName.{stray_ino, first_ino};
 
 use mj_base::{Ino, RankNo};
+
+/// The root.
+pub const ROOT: Ino = Ino(1);
 
 /// The stray directory of a rank.
 pub fn stray_ino(rank: RankNo) -> Ino

@@ -11,10 +11,9 @@ ghost use Rattle.mj_recovery.specs.Held.{entry, links_to, value_in, file_in};
 ghost use Rattle.mj_recovery.specs.ListedDamage.{entries_of, listed_over, listed_damage};
 
 use crate::cells::{Cells, HeldEntry};
-use crate::rows::{
-    bad_opens, bad_replies, full_inodes, headless, least, least_client, lone_remotes, miscounted,
-    out_of_range, twice,
-};
+use crate::lowest::{least, least_client};
+use crate::range::out_of_range;
+use crate::rows::{bad_opens, bad_replies, full_inodes, headless, lone_remotes, miscounted, twice};
 use mj_base::{ClientId, Damage, Ino, RankNo};
 use mj_tree::{PlainLink, PlainTree};
 use std::alloc::{AllocError, Global};

@@ -7,10 +7,12 @@ mod inos;
 mod journal;
 mod judge;
 mod laws;
+mod lowest;
 mod merging;
 mod objects;
 mod plain;
 mod put;
+mod range;
 mod reach;
 mod recover;
 mod refusal;
@@ -21,12 +23,14 @@ mod stream;
 mod tests;
 
 pub use cells::{Cells, HeldDentry, HeldEntry};
-pub use inos::{first_ino, stray_ino};
+pub use inos::{ROOT, first_ino, stray_ino};
 pub use journal::{Entries, LiveEvent, LiveJournal};
 pub use laws::{
     formatted_store_begins, last_write_counts, one_recovery, one_tree_per_table,
     probed_end_is_least, reachable_are_listed,
 };
+pub use lowest::{least, least_client};
 pub use objects::are_held;
+pub use range::{is_named, push_low, push_not_given, push_unknown};
 pub use recover::{Recovery, gather, rebuilt, recovered};
 pub use refusal::RecoverRefusal;

@@ -5,11 +5,9 @@ ghost use Rattle.mj_recovery.specs.Tree.{is_among, subdir, dir_below, dirs_below
 ghost use Rattle.mj_recovery.specs.Held.{dentry, entry};
 
 use crate::cells::{HeldDentry, HeldEntry};
+use crate::inos::ROOT;
 use mj_base::{Ino, Kind};
 use std::alloc::{AllocError, Global};
-
-/// The root.
-pub const ROOT: Ino = Ino(1);
 
 /// Whether a directory is one of these.
 pub fn is_among(dirs: &[Ino], dir: Ino) -> bool

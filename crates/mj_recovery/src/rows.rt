@@ -1,61 +1,17 @@
 //! What is wrong with a table, row by row.
 
-ghost use Rattle.std.specs.Prelude.{◌≡◌, ◌++◌, map, filter, filter_map, not, IfOk, OnOk};
-ghost use Rattle.mj_base.specs.InOrder.{same_bytes};
-ghost use Rattle.mj_base.specs.ObjectName.{hex};
+ghost use Rattle.std.specs.Prelude.{◌≡◌, map, filter, filter_map, IfOk};
 ghost use Rattle.mj_recovery.specs.Tree.{full_records};
-ghost use Rattle.mj_recovery.specs.Damage.{or_less, least, times, inos, headless, twice, is_full_of, lone_remote, miscounted, is_given, is_known, misnamed, low_next, out_of_range, replies, is_bad_reply, bad_replies, is_bad_open};
+ghost use Rattle.mj_recovery.specs.Damage.{times, inos, headless, twice, is_full_of, lone_remote, miscounted, replies, is_bad_reply, bad_replies, is_bad_open};
 ghost use Rattle.mj_recovery.specs.Held.{entry, links_to, value_in, file_in};
 
 use crate::cells::{HeldDentry, HeldEntry};
-use crate::inos::{first_ino, stray_ino};
-use crate::plain::{full_record, ino_of, links_to};
-use crate::reach::{ROOT, is_among};
-use mj_base::{ClientId, Ino, InodeRecord, Kind, Name, RankNo, Tid};
+use crate::inos::ROOT;
+use crate::plain::{full_record, links_to};
+use crate::reach::is_among;
+use mj_base::{ClientId, Ino, InodeRecord, Kind, Tid};
 use mj_tree::PlainLink;
 use std::alloc::{AllocError, Global};
-
-fn or_less(n: Ino, found: Option<Ino>) -> Ino
-    ensures { result ≡ or_less n found }
-{
-    match found {
-        None => n,
-        Some(m) => { if m < n { m } else { n } }
-    }
-}
-
-/// The least of some inodes.
-#[tactic(auto, using(crate::proofs::Least::lesser_more, crate::proofs::Least::lesser_none))]
-pub fn least(inodes: &[Ino]) -> Option<Ino>
-    ensures { result ≡ least inodes.now }
-{
-    let mut found = None;
-    for n in inodes {
-        found = Some(or_less(*n, found));
-    }
-    found
-}
-
-fn or_less_client(n: ClientId, found: Option<ClientId>) -> ClientId
-    ensures { result ≡ or_less n found }
-{
-    match found {
-        None => n,
-        Some(m) => { if m < n { m } else { n } }
-    }
-}
-
-/// The least of some clients.
-#[tactic(auto, using(crate::proofs::Least::lesser_more, crate::proofs::Least::lesser_none))]
-pub fn least_client(clients: &[ClientId]) -> Option<ClientId>
-    ensures { result ≡ least clients.now }
-{
-    let mut found = None;
-    for n in clients {
-        found = Some(or_less_client(*n, found));
-    }
-    found
-}
 
 fn version_of(heads: &[(Ino, u64)], dir: Ino) -> Option<u64>
     ensures { result ≡ value_in heads.now dir }
@@ -185,110 +141,6 @@ pub fn miscounted(
             }
         }
     }
-    Ok(found)
-}
-
-fn is_given(rank: RankNo, next: Ino, ino: Ino) -> bool
-    ensures { result ≡ is_given rank next ino }
-{
-    first_ino(rank) <= ino && ino < next
-}
-
-fn push_low(found: &mut Vec<Ino>, rank: RankNo, next: Ino) -> Result<(), AllocError>
-    ensures { OnOk result (found.new.items ≡ found.old.items ++ low_next rank next) }
-{
-    if next < first_ino(rank) {
-        found.push(next)?;
-    }
-    Ok(())
-}
-
-fn push_not_given(
-    found: &mut Vec<Ino>,
-    rank: RankNo,
-    next: Ino,
-    inodes: &[Ino],
-) -> Result<(), AllocError>
-    ensures { OnOk result (found.new.items ≡ found.old.items ++ filter (λ i. not (is_given rank next i)) inodes.now) }
-{
-    for ino in inodes {
-        if !is_given(rank, next, *ino) {
-            found.push(*ino)?;
-        }
-    }
-    Ok(())
-}
-
-fn push_unknown(
-    found: &mut Vec<Ino>,
-    rank: RankNo,
-    next: Ino,
-    dirs: &[Ino],
-) -> Result<(), AllocError>
-    ensures { OnOk result (found.new.items ≡ found.old.items ++ filter (λ d. not (is_known rank next d)) dirs.now) }
-{
-    for dir in dirs {
-        let known = *dir == ROOT || *dir == stray_ino(rank) || is_given(rank, next, *dir);
-        if !known {
-            found.push(*dir)?;
-        }
-    }
-    Ok(())
-}
-
-fn is_named(alloc: Global, name: &Name, ino: Ino) -> Result<bool, AllocError>
-    ensures { IfOk result (λ b. b ≡ same_bytes name.now (hex ino)) }
-{
-    let number = ino.0;
-    let text = format!(in alloc; "{number:x}")?;
-    Ok(name.as_slice() == text.as_bytes())
-}
-
-fn misnamed(alloc: Global, rank: RankNo, e: &HeldEntry) -> Result<Option<Ino>, AllocError>
-    ensures { IfOk result (λ o. o ≡ misnamed rank (entry e.now)) }
-{
-    let ino = ino_of(&e.1);
-    if e.0.0 != stray_ino(rank) {
-        return Ok(None);
-    }
-    if is_named(alloc, &e.0.1, ino)? {
-        return Ok(None);
-    }
-    Ok(Some(ino))
-}
-
-fn push_misnamed(
-    alloc: Global,
-    found: &mut Vec<Ino>,
-    rank: RankNo,
-    es: &[HeldEntry],
-) -> Result<(), AllocError>
-    ensures { OnOk result (found.new.items ≡ found.old.items ++ filter_map (misnamed rank) (map entry es.now)) }
-{
-    for e in es {
-        if let Some(ino) = misnamed(alloc, rank, e)? {
-            found.push(ino)?;
-        }
-    }
-    Ok(())
-}
-
-/// The numbers that are out of the rank's range, and the inodes of misnamed dentries of stray.
-pub fn out_of_range(
-    alloc: Global,
-    rank: RankNo,
-    next: Ino,
-    inodes: &[Ino],
-    lump_dirs: &[Ino],
-    es: &[HeldEntry],
-) -> Result<Vec<Ino>, AllocError>
-    ensures { IfOk result (λ v. v.items ≡ out_of_range rank next inodes.now lump_dirs.now (map entry es.now)) }
-{
-    let mut found = Vec::new(alloc);
-    push_low(&mut found, rank, next)?;
-    push_not_given(&mut found, rank, next, inodes)?;
-    push_unknown(&mut found, rank, next, lump_dirs)?;
-    push_misnamed(alloc, &mut found, rank, es)?;
     Ok(found)
 }
 

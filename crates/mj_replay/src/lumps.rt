@@ -6,8 +6,7 @@ ghost use Rattle.mj_replay.specs.Lumps.{is_below, none_strange, lumps_known};
 
 use mj_base::{Ino, RankNo};
 use mj_cells::{CellKey, CellWrite};
-use mj_judge::ROOT;
-use mj_recovery::{first_ino, stray_ino};
+use mj_recovery::{ROOT, first_ino, stray_ino};
 
 /// What says, once the next inode is known, whether each directory of some lumps is the root, stray or one that the rank has given.
 #[derive(Clone, Copy, Debug)]

@@ -3,15 +3,13 @@
 ghost use Rattle.std.specs.Prelude.{◌≡◌, ◌++◌, map, filter, filter_map, not, IfOk, OnOk};
 ghost use Rattle.mj_base.specs.InOrder.{same_bytes};
 ghost use Rattle.mj_base.specs.ObjectName.{hex};
-ghost use Rattle.mj_cells.specs.Next.{cell_of};
-ghost use Rattle.mj_recovery.specs.Damage.{is_given, is_known, low_next};
-ghost use Rattle.mj_judge.specs.Rows.{misnamed_ino};
+ghost use Rattle.mj_recovery.specs.Damage.{is_given, is_known, misnamed, low_next, out_of_range};
+ghost use Rattle.mj_recovery.specs.Held.{entry};
 
-use crate::parts::ino_in;
-use crate::reach::ROOT;
+use crate::cells::HeldEntry;
+use crate::inos::{ROOT, first_ino, stray_ino};
+use crate::plain::ino_of;
 use mj_base::{Ino, Name, RankNo};
-use mj_cells::{CellKey, CellView};
-use mj_recovery::{first_ino, stray_ino};
 use std::alloc::{AllocError, Global};
 
 fn is_given(rank: RankNo, next: Ino, ino: Ino) -> bool
@@ -65,7 +63,8 @@ pub fn push_unknown(
     Ok(())
 }
 
-fn is_named(alloc: Global, name: &Name, ino: Ino) -> Result<bool, AllocError>
+/// Whether a name is an inode in hexadecimal digits.
+pub fn is_named(alloc: Global, name: &Name, ino: Ino) -> Result<bool, AllocError>
     ensures { IfOk result (λ b. b ≡ same_bytes name.now (hex ino)) }
 {
     let number = ino.0;
@@ -73,34 +72,50 @@ fn is_named(alloc: Global, name: &Name, ino: Ino) -> Result<bool, AllocError>
     Ok(name.as_slice() == text.as_bytes())
 }
 
-fn misnamed(alloc: Global, rank: RankNo, cell: &CellView<'_>) -> Result<Option<Ino>, AllocError>
-    ensures { IfOk result (λ o. o ≡ misnamed_ino rank (cell_of cell.now)) }
+fn misnamed(alloc: Global, rank: RankNo, e: &HeldEntry) -> Result<Option<Ino>, AllocError>
+    ensures { IfOk result (λ o. o ≡ misnamed rank (entry e.now)) }
 {
-    let (CellKey::Dentry(dir, name), Some(ino)) = (cell.key, ino_in(cell.value)) else {
-        return Ok(None);
-    };
-    if *dir != stray_ino(rank) {
+    let ino = ino_of(&e.1);
+    if e.0.0 != stray_ino(rank) {
         return Ok(None);
     }
-    if is_named(alloc, name, ino)? {
+    if is_named(alloc, &e.0.1, ino)? {
         return Ok(None);
     }
     Ok(Some(ino))
 }
 
-/// The inodes of the dentries of stray that have not their names.
-pub fn push_misnamed(
+fn push_misnamed(
     alloc: Global,
     found: &mut Vec<Ino>,
     rank: RankNo,
-    cells: &[CellView<'_>],
+    es: &[HeldEntry],
 ) -> Result<(), AllocError>
-    ensures { OnOk result (found.new.items ≡ found.old.items ++ filter_map (misnamed_ino rank) (map cell_of cells.now)) }
+    ensures { OnOk result (found.new.items ≡ found.old.items ++ filter_map (misnamed rank) (map entry es.now)) }
 {
-    for cell in cells {
-        if let Some(ino) = misnamed(alloc, rank, cell)? {
+    for e in es {
+        if let Some(ino) = misnamed(alloc, rank, e)? {
             found.push(ino)?;
         }
     }
     Ok(())
+}
+
+/// The numbers that are out of the rank's range, and the inodes of misnamed dentries of stray.
+pub fn out_of_range(
+    alloc: Global,
+    rank: RankNo,
+    next: Ino,
+    inodes: &[Ino],
+    lump_dirs: &[Ino],
+    es: &[HeldEntry],
+) -> Result<Vec<Ino>, AllocError>
+    ensures { IfOk result (λ v. v.items ≡ out_of_range rank next inodes.now lump_dirs.now (map entry es.now)) }
+{
+    let mut found = Vec::new(alloc);
+    push_low(&mut found, rank, next)?;
+    push_not_given(&mut found, rank, next, inodes)?;
+    push_unknown(&mut found, rank, next, lump_dirs)?;
+    push_misnamed(alloc, &mut found, rank, es)?;
+    Ok(found)
 }
