@@ -1,3 +1,2 @@
 pub mod PlainMaps
 pub mod RangesKept
-pub mod PlainReplies

@@ -3,7 +3,6 @@
 
 mod cache;
 mod plain;
-mod plain_sessions;
 mod ranges;
 mod refusal;
 

@@ -1,33 +1,32 @@
 //! The early tree by lists alone.
 
-ghost use Rattle.std.specs.Prelude.{◌≡◌, ◌∷◌, map, filter_map, IfOk, OnOk};
+ghost use Rattle.std.specs.Prelude.{◌≡◌, ◌∷◌, map, filter_map, IfOk};
 ghost use Rattle.std.specs.Option.{option_map};
 ghost use Rattle.std.specs.BTreeMap.{IsOrdered};
 ghost use Rattle.mj_base.specs.ObjectName.{stray_ino};
-ghost use Rattle.mj_maps.specs.Map.{Map, entries, from_entries, insert, picked};
+ghost use Rattle.mj_maps.specs.Map.{Map, entries, from_entries, picked};
 ghost use Rattle.mj_maps.specs.Orders.{nat_cmp};
-ghost use Rattle.mj_tree.specs.Lists.{record_entries, link_entries, open_entries};
+ghost use Rattle.mj_tree.specs.Lists.{record_entries, link_entries};
 ghost use Rattle.mj_tree.specs.Meaning.{state_of};
 ghost use Rattle.mj_cells.specs.declared.cell.CellValue.{CellValue};
 ghost use Rattle.mj_cells.specs.Cell.{key_cmp};
 ghost use Rattle.mj_cells.specs.Next.{cell_of};
 ghost use Rattle.mj_cells.specs.Table.{table_of};
 ghost use Rattle.mj_tables.specs.Layered.{early_cells};
-ghost use Rattle.mj_recovery.specs.Sorted.{with_unit};
 ghost use Rattle.mj_recovery.specs.Tree.{by_inode, tree_of};
 ghost use Rattle.mj_judge.specs.Reached.{AreDirs};
 ghost use Rattle.mj_judge.specs.Rows.{count_in, full_in};
 ghost use Rattle.mj_cache.specs.PlainLists.{link_entry, link_of, record_kept};
 
-use crate::plain_sessions::plain_sessions;
-use mj_base::{ClientId, Ino, InodeRecord, Items, RankNo};
+use mj_base::{Ino, InodeRecord, Items, RankNo};
 use mj_cells::{CellKey, CellView};
 use mj_judge::{
     Counts, full_in, ino_in, is_dir, kept_replies, link_counts, next_ino, open_counts, opens,
     reachable, sessions,
 };
+use mj_recovery::{plain_opens, plain_sessions, put_record};
 use mj_tables::Layers;
-use mj_tree::{PlainLink, PlainOpen, PlainTree};
+use mj_tree::{PlainLink, PlainTree};
 use std::alloc::{AllocError, Global};
 use std::collections::{BTreeMap, BTreeSet};
 
@@ -68,31 +67,6 @@ fn plain_links(
         }
     }
     Ok(found)
-}
-
-fn plain_opens(alloc: Global, places: &[(ClientId, Ino)]) -> Result<Vec<PlainOpen>, AllocError>
-    ensures { IfOk result (λ v. open_entries v.items ≡ map with_unit places.now) }
-{
-    let mut found = Vec::new(alloc);
-    for place in places {
-        found.push(PlainOpen {
-            client: place.0,
-            ino: place.1,
-        })?;
-    }
-    Ok(found)
-}
-
-fn put_record(
-    alloc: Global,
-    found: &mut BTreeMap<Ino, InodeRecord>,
-    inode: &InodeRecord,
-) -> Result<(), AllocError>
-    ensures { OnOk result (from_entries {R = nat_cmp} found.new.entries ≡ insert (from_entries found.old.entries) inode.now.ino inode.now) }
-{
-    let same = inode.copy(alloc)?;
-    found.insert(inode.ino, same)?;
-    Ok(())
 }
 
 // The records of the full dentries by inode. The first of two is put last and stays.

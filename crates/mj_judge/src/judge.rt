@@ -5,7 +5,7 @@ ghost use Rattle.std.specs.Option.{option_map};
 ghost use Rattle.mj_base.specs.declared.damage.Damage.TheVariants as damage;
 ghost use Rattle.mj_cells.specs.Next.{cell_of};
 ghost use Rattle.mj_tables.specs.Layered.{early_cells};
-ghost use Rattle.mj_recovery.specs.Damage.{least, twice, headless, first_open, opened_by, over, over_entries};
+ghost use Rattle.mj_recovery.specs.Damage.{least, twice, headless, first_open, over, over_entries};
 ghost use Rattle.mj_judge.specs.Rows.{count_in, version_at};
 ghost use Rattle.mj_judge.specs.Judged.{held, lone, wrong_counts, all_dirs, beyond, next_of, wrong_opens, wrong_replies, too_much, kept_inodes, found_damage, entry_times, link_times, open_times};
 
@@ -14,13 +14,15 @@ use crate::dentries::{dentry_dirs, full_inodes, kind_inodes, link_dirs, link_ino
 use crate::kinds::kinds_of;
 use crate::parts::{head_dirs, kept_replies, next_ino, opens, sessions};
 use crate::rows::{
-    bad_opens, bad_replies, clients_of, headless, kept_of, lone_remotes, miscounted,
-    opened_inodes, over_dirs, reply_clients, twice,
+    bad_opens, bad_replies, headless, kept_of, lone_remotes, miscounted, over_dirs, reply_clients,
+    twice,
 };
 use crate::stray::push_misnamed;
 use mj_base::{ClientId, Damage, Ino, Kind, RankNo};
 use mj_cells::CellView;
-use mj_recovery::{least, least_client, push_low, push_not_given, push_unknown};
+use mj_recovery::{
+    first_open, least, least_client, opened_inodes, push_low, push_not_given, push_unknown,
+};
 use mj_tables::Layers;
 use std::alloc::{AllocError, Global};
 use std::collections::BTreeSet;
@@ -161,30 +163,6 @@ fn bad_next(
     let found = beyond(alloc, rank, next, dirs, cells)?;
     match least(&found) {
         Some(ino) => Ok(Some(Damage::BadNext(ino))),
-        None => Ok(None),
-    }
-}
-
-fn opened_by(
-    alloc: Global,
-    opens: &[(ClientId, Ino)],
-    ino: Ino,
-) -> Result<Option<Damage>, AllocError>
-    ensures { IfOk result (λ o. o ≡ opened_by opens.now ino) }
-{
-    let clients = clients_of(alloc, ino, opens)?;
-    match least_client(&clients) {
-        Some(client) => Ok(Some(Damage::BadOpen(client, ino))),
-        None => Ok(None),
-    }
-}
-
-fn first_open(alloc: Global, opens: &[(ClientId, Ino)]) -> Result<Option<Damage>, AllocError>
-    ensures { IfOk result (λ o. o ≡ first_open opens.now) }
-{
-    let inodes = opened_inodes(alloc, opens)?;
-    match least(&inodes) {
-        Some(ino) => opened_by(alloc, opens, ino),
         None => Ok(None),
     }
 }

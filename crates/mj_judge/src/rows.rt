@@ -5,7 +5,7 @@ ghost use Rattle.mj_base.specs.ObjectName.{stray_ino};
 ghost use Rattle.mj_tree.specs.State.{root};
 ghost use Rattle.mj_cells.specs.Next.{cell_of};
 ghost use Rattle.mj_tables.specs.Layered.{early_cells};
-ghost use Rattle.mj_recovery.specs.Damage.{headless, bad_opens, client_of};
+ghost use Rattle.mj_recovery.specs.Damage.{headless, bad_opens};
 ghost use Rattle.mj_judge.specs.Kinds.{is_kind};
 ghost use Rattle.mj_judge.specs.Rows.{count_in, is_counted, miscounted_ino, lone_ino, replies_badly, oldest_at, version_at, kept_of, over_dirs};
 
@@ -202,34 +202,6 @@ pub fn reply_clients(
     let mut found = Vec::new(alloc);
     for reply in done {
         found.push(reply.0.0)?;
-    }
-    Ok(found)
-}
-
-/// The inode of each open.
-pub fn opened_inodes(alloc: Global, opens: &[(ClientId, Ino)]) -> Result<Vec<Ino>, AllocError>
-    ensures { IfOk result (λ v. v.items ≡ map (λ (o : ℕ × ℕ). o.1) opens.now) }
-{
-    let mut found = Vec::new(alloc);
-    for open in opens {
-        found.push(open.1)?;
-    }
-    Ok(found)
-}
-
-/// The clients that have an inode open.
-pub fn clients_of(
-    alloc: Global,
-    ino: Ino,
-    opens: &[(ClientId, Ino)],
-) -> Result<Vec<ClientId>, AllocError>
-    ensures { IfOk result (λ v. v.items ≡ filter_map (client_of ino) opens.now) }
-{
-    let mut found = Vec::new(alloc);
-    for open in opens {
-        if open.1 == ino {
-            found.push(open.0)?;
-        }
     }
     Ok(found)
 }

@@ -2,6 +2,7 @@ pub mod Merges
 pub mod Finished
 pub mod Blank
 pub mod Replies
+mod PlainReplies
 pub mod Planted
 pub mod Probing
 pub mod Steps

@@ -111,7 +111,8 @@ fn read_entries(alloc: Global, bytes: &[u8], at: u64, write: u64) -> Result<Entr
     })
 }
 
-fn is_beginning(event: &Event) -> bool
+/// Whether a journal may begin with this event: a subtree map or a reset.
+pub fn is_beginning(event: &Event) -> bool
     ensures { result ≡ is_beginning event.now }
 {
     match event {

@@ -1,20 +1,21 @@
 //! The first damage of a table.
 
-ghost use Rattle.std.specs.Prelude.{◌≡◌, ℕ, ◌∷◌, length, map, filter, filter_map, unwrap_or, IfOk, nat_lt};
+ghost use Rattle.std.specs.Prelude.{◌≡◌, ◌∷◌, map, filter, filter_map, unwrap_or, IfOk, nat_lt};
 ghost use Rattle.std.specs.Option.{option_map};
 ghost use Rattle.mj_base.specs.ObjectName.{stray_ino};
 ghost use Rattle.mj_base.specs.declared.damage.Damage.TheVariants as damage;
 ghost use Rattle.mj_tree.specs.Row.{most_entries};
 ghost use Rattle.mj_recovery.specs.Tree.{full_records};
-ghost use Rattle.mj_recovery.specs.Damage.{least, inos, headless, twice, lone_remote, miscounted, out_of_range, bad_opens, client_of, opened_by, first_open, bad_replies, over, over_entries};
+ghost use Rattle.mj_recovery.specs.Damage.{least, inos, headless, twice, lone_remote, miscounted, out_of_range, bad_opens, first_open, bad_replies, over, over_entries};
 ghost use Rattle.mj_recovery.specs.Held.{entry, links_to, value_in, file_in};
 ghost use Rattle.mj_recovery.specs.ListedDamage.{entries_of, listed_over, listed_damage};
 
 use crate::cells::{Cells, HeldEntry};
+use crate::first_open::first_open;
 use crate::lowest::{least, least_client};
 use crate::range::out_of_range;
 use crate::rows::{bad_opens, bad_replies, full_inodes, headless, lone_remotes, miscounted, twice};
-use mj_base::{ClientId, Damage, Ino, RankNo};
+use mj_base::{Damage, Ino, RankNo};
 use mj_tree::{PlainLink, PlainTree};
 use std::alloc::{AllocError, Global};
 
@@ -97,56 +98,6 @@ fn bad_next(
     )?;
     match least(&found) {
         Some(ino) => Ok(Some(Damage::BadNext(ino))),
-        None => Ok(None),
-    }
-}
-
-fn opened_inodes(alloc: Global, opens: &[(ClientId, Ino)]) -> Result<Vec<Ino>, AllocError>
-    ensures { IfOk result (λ v. v.items ≡ map (λ (o : ℕ × ℕ). o.1) opens.now) }
-{
-    let mut found = Vec::new(alloc);
-    for open in opens {
-        found.push(open.1)?;
-    }
-    Ok(found)
-}
-
-fn clients_of(
-    alloc: Global,
-    ino: Ino,
-    opens: &[(ClientId, Ino)],
-) -> Result<Vec<ClientId>, AllocError>
-    ensures { IfOk result (λ v. v.items ≡ filter_map (client_of ino) opens.now) }
-{
-    let mut found = Vec::new(alloc);
-    for open in opens {
-        if open.1 == ino {
-            found.push(open.0)?;
-        }
-    }
-    Ok(found)
-}
-
-fn opened_by(
-    alloc: Global,
-    opens: &[(ClientId, Ino)],
-    ino: Ino,
-) -> Result<Option<Damage>, AllocError>
-    ensures { IfOk result (λ o. o ≡ opened_by opens.now ino) }
-{
-    let clients = clients_of(alloc, ino, opens)?;
-    match least_client(&clients) {
-        Some(client) => Ok(Some(Damage::BadOpen(client, ino))),
-        None => Ok(None),
-    }
-}
-
-fn first_open(alloc: Global, opens: &[(ClientId, Ino)]) -> Result<Option<Damage>, AllocError>
-    ensures { IfOk result (λ o. o ≡ first_open opens.now) }
-{
-    let inodes = opened_inodes(alloc, opens)?;
-    match least(&inodes) {
-        Some(ino) => opened_by(alloc, opens, ino),
         None => Ok(None),
     }
 }

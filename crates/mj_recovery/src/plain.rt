@@ -1,24 +1,23 @@
 //! The plain tree of a table's cells.
 
-ghost use Rattle.std.specs.Prelude.{◌≡◌, ◌∷◌, map, filter_map, length, Some, IfOk, OnOk, IsTrue};
+ghost use Rattle.std.specs.Prelude.{◌≡◌, ◌∷◌, map, Some, IfOk, OnOk};
 ghost use Rattle.std.specs.BTreeMap.{IsOrdered};
-ghost use Rattle.std.specs.FinMap.Entries.{is_sorted};
 ghost use Rattle.std.specs.Option.{option_copied};
 ghost use Rattle.mj_maps.specs.Map.{from_entries, insert, picked};
-ghost use Rattle.mj_maps.specs.Orders.{nat_cmp, pair_cmp};
-ghost use Rattle.mj_tree.specs.Lists.{record_entries, link_entries, open_entries, session_entries, session_of};
-ghost use Rattle.mj_tree.specs.Replies.{kept_entries};
+ghost use Rattle.mj_maps.specs.Orders.{nat_cmp};
+ghost use Rattle.mj_tree.specs.Lists.{record_entries, link_entries, open_entries};
 ghost use Rattle.mj_tree.specs.Meaning.{state_of};
 ghost use Rattle.mj_base.specs.ObjectName.{stray_ino};
-ghost use Rattle.mj_recovery.specs.Tree.{full_record, primaries, reply_of, session_in, link_in, ino_of, reachable, tree_of};
+ghost use Rattle.mj_recovery.specs.Tree.{full_record, primaries, link_in, ino_of, reachable, tree_of};
 ghost use Rattle.mj_recovery.specs.Sorted.{with_unit};
 ghost use Rattle.mj_recovery.specs.Held.{dentry, entry, links_to, opens_of, kept_record, table_in};
 
 use crate::cells::{Cells, HeldDentry, HeldEntry};
 use crate::inos::stray_ino;
+use crate::plain_sessions::plain_sessions;
 use crate::reach::is_among;
-use mj_base::{ClientId, Ino, InodeRecord, Items, RankNo, Tid};
-use mj_tree::{KeptReply, PlainLink, PlainOpen, PlainSession, PlainTree};
+use mj_base::{ClientId, Ino, InodeRecord, Items, RankNo};
+use mj_tree::{PlainLink, PlainOpen, PlainTree};
 use std::alloc::{AllocError, Global};
 use std::collections::BTreeMap;
 
@@ -42,7 +41,8 @@ pub fn ino_of(d: &HeldDentry) -> Ino
     }
 }
 
-fn put_record(
+/// Puts the record of an inode among those by inode.
+pub fn put_record(
     alloc: Global,
     found: &mut BTreeMap<Ino, InodeRecord>,
     inode: &InodeRecord,
@@ -88,7 +88,8 @@ fn links(alloc: Global, dirs: &[Ino], es: &[HeldEntry]) -> Result<Vec<PlainLink>
     Ok(found)
 }
 
-fn opens(alloc: Global, places: &[(ClientId, Ino)]) -> Result<Vec<PlainOpen>, AllocError>
+/// The opens of these clients and inodes.
+pub fn plain_opens(alloc: Global, places: &[(ClientId, Ino)]) -> Result<Vec<PlainOpen>, AllocError>
     ensures { IfOk result (λ v. open_entries v.items ≡ map with_unit places.now) }
 {
     let mut found = Vec::new(alloc);
@@ -97,61 +98,6 @@ fn opens(alloc: Global, places: &[(ClientId, Ino)]) -> Result<Vec<PlainOpen>, Al
             client: place.0,
             ino: place.1,
         })?;
-    }
-    Ok(found)
-}
-
-// The kept replies of a client.
-fn replies(
-    alloc: Global,
-    client: ClientId,
-    done: &[((ClientId, Tid), Ino)],
-) -> Result<Vec<KeptReply>, AllocError>
-    ensures { IfOk result (λ v. kept_entries v.items ≡ filter_map (reply_of client) done.now) }
-{
-    let mut found = Vec::new(alloc);
-    for reply in done {
-        if reply.0.0 == client {
-            found.push(KeptReply {
-                tid: reply.0.1,
-                ino: reply.1,
-            })?;
-        }
-    }
-    Ok(found)
-}
-
-#[tactic(auto, using(crate::proofs::Replies::sorted_replies))]
-fn session(
-    alloc: Global,
-    client: ClientId,
-    oldest: Tid,
-    done: &[((ClientId, Tid), Ino)],
-) -> Result<PlainSession, AllocError>
-    requires { IsTrue (is_sorted pair_cmp done.now) }
-    ensures client { IfOk result (λ c. c.client ≡ client) }
-    ensures session { IfOk result (λ c. Some (session_of c) ≡ session_in done.now client oldest) }
-{
-    let kept = replies(alloc, client, done)?;
-    Ok(PlainSession {
-        client,
-        oldest,
-        kept: Items::from_vec(kept),
-    })
-}
-
-fn sessions(
-    alloc: Global,
-    oldest: &[(ClientId, Tid)],
-    done: &[((ClientId, Tid), Ino)],
-) -> Result<Vec<PlainSession>, AllocError>
-    requires { IsTrue (is_sorted pair_cmp done.now) }
-    ensures { IfOk result (λ v. session_entries v.items ≡ picked (session_in done.now) oldest.now) }
-{
-    let mut found = Vec::new(alloc);
-    for held in oldest {
-        let session = session(alloc, held.0, held.1, done)?;
-        found.push(session)?;
     }
     Ok(found)
 }
@@ -227,8 +173,8 @@ pub fn plain_tree(
     let es = cells.dentries.as_slice();
     let held = holding(alloc, dirs, rank)?;
     let links = links(alloc, dirs, es)?;
-    let opens = opens(alloc, cells.opens.as_slice())?;
-    let sessions = sessions(alloc, cells.sessions.as_slice(), cells.done.as_slice())?;
+    let opens = plain_opens(alloc, cells.opens.as_slice())?;
+    let sessions = plain_sessions(alloc, cells.sessions.as_slice(), cells.done.as_slice())?;
     let inodes = by_inode(alloc, &held, es)?;
     let records = kept_records(alloc, inodes, &links, &opens)?;
     Ok(PlainTree {

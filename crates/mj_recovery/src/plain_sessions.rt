@@ -47,7 +47,7 @@ fn replies_of(
     Ok(found)
 }
 
-#[tactic(auto, using(mj_recovery::proofs::Replies::sorted_replies))]
+#[tactic(auto, using(crate::proofs::Replies::sorted_replies))]
 fn plain_session(
     alloc: Global,
     client: ClientId,
