@@ -9,13 +9,7 @@ use mj_store::{ObjectAct, ObjectOp};
 
 /// The operation that cuts an object of this size to what stands below the tail. None comes exactly where no byte of it is at or
 /// above the tail.
-pub fn tail_cut(
-    rank: RankNo,
-    layout: &Layout,
-    tail: u64,
-    index: u64,
-    size: u64,
-) -> Option<ObjectOp>
+pub fn tail_cut(rank: RankNo, layout: &Layout, tail: u64, index: u64, size: u64) -> Option<ObjectOp>
     ensures { MatchOption result (IsBelowTail layout.now tail index size) (Truncates rank layout.now tail index size) }
 {
     layout.is_sound();

@@ -13,7 +13,7 @@ pub mod Stores
 pub mod Wholly
 pub mod Lawful
 pub mod Judged
-pub mod Least
+pub mod Lesser
 pub mod Names
 pub mod Formatting
 pub mod Reaching

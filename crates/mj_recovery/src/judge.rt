@@ -11,8 +11,8 @@ ghost use Rattle.mj_recovery.specs.Held.{entry, links_to, value_in, file_in};
 ghost use Rattle.mj_recovery.specs.ListedDamage.{entries_of, listed_over, listed_damage};
 
 use crate::cells::{Cells, HeldEntry};
-use crate::first_open::first_open;
 use crate::lowest::{least, least_client};
+use crate::opens::first_open;
 use crate::range::out_of_range;
 use crate::rows::{bad_opens, bad_replies, full_inodes, headless, lone_remotes, miscounted, twice};
 use mj_base::{Damage, Ino, RankNo};

@@ -3,7 +3,6 @@
 
 mod bad;
 mod cells;
-mod first_open;
 mod inos;
 mod journal;
 mod judge;
@@ -11,21 +10,21 @@ mod laws;
 mod lowest;
 mod merging;
 mod objects;
+mod opens;
 mod plain;
-mod plain_sessions;
 mod put;
 mod range;
 mod reach;
 mod recover;
 mod refusal;
 mod rows;
+mod sessions;
 mod stored;
 mod stream;
 #[cfg(test)]
 mod tests;
 
 pub use cells::{Cells, HeldDentry, HeldEntry};
-pub use first_open::{first_open, opened_inodes};
 pub use inos::{ROOT, first_ino, stray_ino};
 pub use journal::{Entries, LiveEvent, LiveJournal, is_beginning};
 pub use laws::{
@@ -34,8 +33,9 @@ pub use laws::{
 };
 pub use lowest::{least, least_client};
 pub use objects::are_held;
+pub use opens::{first_open, opened_inodes};
 pub use plain::{plain_opens, put_record};
-pub use plain_sessions::plain_sessions;
 pub use range::{is_named, push_low, push_not_given, push_unknown};
 pub use recover::{Recovery, gather, rebuilt, recovered};
 pub use refusal::RecoverRefusal;
+pub use sessions::plain_sessions;

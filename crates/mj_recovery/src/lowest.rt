@@ -15,7 +15,7 @@ fn or_less(n: Ino, found: Option<Ino>) -> Ino
 }
 
 /// The least of some inodes.
-#[tactic(auto, using(crate::proofs::Least::lesser_more, crate::proofs::Least::lesser_none))]
+#[tactic(auto, using(crate::proofs::Lesser::lesser_more, crate::proofs::Lesser::lesser_none))]
 pub fn least(inodes: &[Ino]) -> Option<Ino>
     ensures { result ≡ least inodes.now }
 {
@@ -36,7 +36,7 @@ fn or_less_client(n: ClientId, found: Option<ClientId>) -> ClientId
 }
 
 /// The least of some clients.
-#[tactic(auto, using(crate::proofs::Least::lesser_more, crate::proofs::Least::lesser_none))]
+#[tactic(auto, using(crate::proofs::Lesser::lesser_more, crate::proofs::Lesser::lesser_none))]
 pub fn least_client(clients: &[ClientId]) -> Option<ClientId>
     ensures { result ≡ least clients.now }
 {

@@ -14,8 +14,8 @@ ghost use Rattle.mj_recovery.specs.Held.{dentry, entry, links_to, opens_of, kept
 
 use crate::cells::{Cells, HeldDentry, HeldEntry};
 use crate::inos::stray_ino;
-use crate::plain_sessions::plain_sessions;
 use crate::reach::is_among;
+use crate::sessions::plain_sessions;
 use mj_base::{ClientId, Ino, InodeRecord, Items, RankNo};
 use mj_tree::{PlainLink, PlainOpen, PlainTree};
 use std::alloc::{AllocError, Global};

@@ -1,6 +1,6 @@
 use Rattle.std.proofs.Common.{◌≡◌, drop}
 use Rattle.mj_recovery.specs.Damage.{least}
-use Rattle.mj_recovery.proofs.Least.{lesser}
+use Rattle.mj_recovery.proofs.Lesser.{lesser}
 use Rattle.mj_recovery.proofs.lowest.least_client.Given as goal
 
 abbrev pub invariant-loop-n : goal.invariant-loop-n

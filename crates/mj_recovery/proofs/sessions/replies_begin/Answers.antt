@@ -1,7 +1,7 @@
 use Rattle.std.proofs.Common.{ℕ, nat_lt, arith, rules}
 use Rattle.std.proofs.lemmas.List.Sorted.{IsPartitionPoint-from_clause, IsPartitionedBy-ltb}
 use Rattle.mj_recovery.proofs.PlainReplies.{clients_rise, lt_from, none_before}
-use Rattle.mj_recovery.proofs.plain_sessions.replies_begin.Goals as goal
+use Rattle.mj_recovery.proofs.sessions.replies_begin.Goals as goal
 
 pub returns-clause-kept : goal.returns-clause-kept
 returns-clause-kept c =

@@ -1,8 +1,8 @@
 use Rattle.std.proofs.Common.{sym, ◌∙◌}
 use Rattle.mj_tree.specs.Replies.{kept_entries}
 use Rattle.mj_recovery.proofs.PlainReplies.{lt_ordered, none_from, none_past, all_found}
-use Rattle.mj_recovery.proofs.plain_sessions.replies_of.Goals.{else-loop-i-test, then-loop-i-test+then-lt}
-use Rattle.mj_recovery.proofs.plain_sessions.replies_of.Goals as goal
+use Rattle.mj_recovery.proofs.sessions.replies_of.Goals.{else-loop-i-test, then-loop-i-test+then-lt}
+use Rattle.mj_recovery.proofs.sessions.replies_of.Goals as goal
 
 pub returns : goal.returns
 returns c =
