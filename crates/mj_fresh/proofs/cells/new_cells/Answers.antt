@@ -12,5 +12,6 @@ returns c =
     let one = c.in_ok-put.ensures.ok ∙ (λ i. insert (c.new-cells.ensures i) (c.head.ensures i).key (c.head.ensures i).value) in
     let two = c.in_ok-put-2.ensures.ok ∙ (λ i. insert (one i) (c.head-2.ensures i).key (c.head-2.ensures i).value)
     ∙ ap (λ (d : ℕ). insert (insert empty (DirHead root) (Number 1)) (DirHead d) (Number 1)) c.stray_ino.ensures in
-    let three = c.in_ok-put-3.ensures.ok ∙ (λ i. insert (two i) NextIno (Number (c.first_ino.ensures i))) in
+    let next = c.put-3.view_is ∙ c.first_ino.ensures in
+    let three = c.in_ok-put-3.ensures.ok ∙ (λ i. insert (two i) NextIno (Number (next i))) in
     ap table_of three ∙ new_table c.args.rank
