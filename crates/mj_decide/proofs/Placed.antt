@@ -1,8 +1,8 @@
 -- What the full dentry of an inode says of it, in a cache that has its tree.
-use Rattle.std.proofs.Common.{◌≡◌, ℕ, List, true, false, cond, ◌&&◌, ◌+◌, Option, Some, None, refl, sym, ap, ◌∙◌, inl, inr}
-use Rattle.std.specs.Prelude.{◌==◌, nat_lt, find, IfSome}
+use Rattle.std.proofs.Common.{◌≡◌, ℕ, List, true, false, cond, Option, Some, None, refl, sym, ap, ◌∙◌, inl, inr}
+use Rattle.std.specs.Prelude.{find, IfSome}
 use Rattle.std.specs.Option.{option_and_then, option_map}
-use Rattle.std.proofs.lemmas.Bool.{eqb-true}
+use Rattle.std.proofs.lemmas.Bool.{cases_Bool, eqb-true}
 use Rattle.mj_base.specs.declared.record.InodeRecord.{InodeRecord}
 use Rattle.mj_maps.specs.Map.{entries, get}
 use Rattle.mj_maps.proofs.MapLaws.{exact_place, count_none, none_some, some_same}
@@ -17,9 +17,9 @@ use Rattle.mj_machine.specs.Delta.{primary}
 use Rattle.mj_machine.specs.Delta as delta
 use Rattle.mj_cache.specs.Cached.{CacheValue, early_cells, early_table, early_tree, primary_of}
 use Rattle.mj_index.specs.Places.{full_place, is_full_at, dentry_key}
-use Rattle.mj_delta.specs.Reads.{names, full_of, said_by, stored_links, cell_of}
-use Rattle.mj_delta.specs.TreeOf.{HasDentries, IsTreeOf}
-use Rattle.mj_delta.proofs.Facts.{cases_option, full_cell, link_primary}
+use Rattle.mj_delta.specs.Reads.{names, said_by, stored_links, cell_of}
+use Rattle.mj_delta.specs.TreeOf.{HasDentries}
+use Rattle.mj_delta.proofs.Facts.{cases_option, link_primary}
 use Rattle.mj_delta.proofs.Primaries.{primary_is}
 use Rattle.mj_judge.proofs.PartMaps.{get-dentries}
 use Rattle.mj_decide.specs.HasTree.{HasTree}
@@ -90,6 +90,13 @@ module _ (c : CacheValue) (is : HasTree c) where
 
   pub record_gone : (i : ℕ) → is_kept s i ≡ false → None ≡ get s.records i
   record_gone i gone = sym (m.records i ∙ ap (λ b. cond b (said_by (cell_of t is.primary i)) None) gone)
+
+  -- where no full dentry is, there is no record
+  pub record_none : (i : ℕ) → full_record c i ≡ None → None ≡ get s.records i
+  record_none i none = elim (cases_Bool (is_kept s i)) [
+    | inl kept ↦ ap (option_map attributes_of) (sym none) ∙ record_kept i kept
+    | inr gone ↦ record_gone i gone
+  ]
 
   pub link_is : (q : ℕ × List ℕ) → is_dir s q.0 ≡ true → names (get t.dentries q) ≡ get s.links q
   link_is q dir = sym (m.links q ∙ ap (λ b. cond b (names (get t.dentries q)) None) dir)

@@ -105,12 +105,13 @@ pub fn link_count(cache: &Cache, ino: Ino) -> u32
     }
 }
 
-/// Whether a link or an open names the inode.
-pub fn is_kept(cache: &Cache, ino: Ino) -> bool
+// Whether a link or an open names the inode of this record.
+fn is_kept(cache: &Cache, ino: Ino, inode: &InodeRecord) -> bool
     requires tree { HasTree cache.now }
+    requires links { inode.now.links ≡ link_count (early_tree cache.now) ino }
     ensures { result ≡ is_kept (early_tree cache.now) ino }
 {
-    link_count(cache, ino) > 0 || cache.opens_of(ino) > 0
+    inode.links > 0 || cache.opens_of(ino) > 0
 }
 
 /// The record of an inode that a link or an open names. The root has none.
@@ -119,10 +120,15 @@ pub fn record(cache: &Cache, ino: Ino) -> Option<&InodeRecord>
     ensures links { IfSome (option_copied result) (λ inode. inode.links ≡ link_count (early_tree cache.now) ino) }
 {
     has_tree(cache);
-    if is_kept(cache, ino) {
-        full_record(cache, ino)
-    } else {
-        None
+    match full_record(cache, ino) {
+        Some(inode) => {
+            if is_kept(cache, ino, inode) {
+                Some(inode)
+            } else {
+                None
+            }
+        }
+        None => None,
     }
 }
 
