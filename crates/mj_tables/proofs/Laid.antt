@@ -210,17 +210,9 @@ writes_at m gs laid k = ap is_some (laid.ahead k) ∙ some-ahead_of k gs
 
 -- ---- one more write
 
-pub all_projected-push : (ends : ℕ) (m : Slots) (ws : List CellWrite) (w : CellWrite) → all_projected ends m (ws ++ w ∷ []) ≡ altered (all_projected ends m ws) w.key (projecting w.value ends)
-all_projected-push ends m [] w = refl
-all_projected-push ends m (x ∷ ws) w = all_projected-push ends (altered m x.key (projecting x.value ends)) ws w
-
 pub all_settled-push : (ends : ℕ) (m : Slots) (ws : List CellWrite) (w : CellWrite) → all_settled ends m (ws ++ w ∷ []) ≡ altered (all_settled ends m ws) w.key (settling w.value ends)
 all_settled-push ends m [] w = refl
 all_settled-push ends m (x ∷ ws) w = all_settled-push ends (altered m x.key (settling x.value ends)) ws w
-
-pub all_room-push : (m : Slots) (ws : List CellWrite) (w : CellWrite) → all_room m (ws ++ w ∷ []) ≡ with_room (all_room m ws) w.key
-all_room-push m [] w = refl
-all_room-push m (x ∷ ws) w = all_room-push (with_room m x.key) ws w
 
 -- ---- groups that have ended
 

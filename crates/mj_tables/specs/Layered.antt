@@ -1,5 +1,5 @@
 -- A safe table, and over it the groups of writes that are not safe yet, oldest first.
-use Rattle.std.specs.Prelude.{ℕ, ◌<◌, Bool, false, true, nat_le, nat_lt, ◌&&◌, List, [], ◌∷◌, ◌++◌, filter, IsSome, Option, Some, None, refl}
+use Rattle.std.specs.Prelude.{ℕ, ◌<◌, Bool, false, true, nat_le, nat_lt, ◌&&◌, List, [], ◌∷◌, filter, IsSome, Option, refl}
 use Rattle.std.specs.Coded.{Coded, code_by, coded×, coded_ℕ, coded_list}
 use Rattle.std.specs.List.{flat_map, list_any, AllByRecursion}
 use Rattle.mj_maps.specs.Map.{Map, Set, get, entries, code, set_code}

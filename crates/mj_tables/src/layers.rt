@@ -4,6 +4,7 @@ ghost use Rattle.std.specs.Prelude.{◌≡◌, ◌<◌, [], ◌∷◌, ◌++◌,
 ghost use Rattle.std.specs.Option.{option_copied};
 ghost use Rattle.std.specs.Bound.{bound_map};
 ghost use Rattle.mj_maps.specs.Map.{get, entries};
+ghost use Rattle.mj_cells.specs.declared.cell.CellWrite.{CellWrite};
 ghost use Rattle.mj_cells.specs.Next.{cell_of, bound_above};
 ghost use Rattle.mj_cells.specs.Table.{put_all};
 ghost use Rattle.mj_tables.specs.Layered.{all_writes, writes_key, early_cells, next_there, EndBelow, HasRoom, ended, unended};
@@ -114,31 +115,31 @@ impl Layers {
         Ok(found)
     }
 
-    /// Makes the room of a group of these writes, and copies them. Nothing that is held changes.
-    pub fn reserve(&mut self, alloc: Global, ws: &[CellWrite]) -> Result<Vec<CellWrite>, AllocError>
+    /// Makes the room of a group of these writes, and copies their values. Nothing that is held changes.
+    pub fn reserve(&mut self, alloc: Global, ws: &[CellWrite]) -> Result<Vec<CellValue>, AllocError>
         ensures safe { self.new.safe ≡ self.old.safe }
         ensures groups { self.new.groups ≡ self.old.groups }
         ensures room { OnOk result (HasRoom self.new.room ws.now) }
         ensures spare { OnOk result (0 < self.new.spare) }
-        ensures copies { IfOk result (λ same. same.items ≡ ws.now) }
+        ensures values { IfOk result (λ values. values.items ≡ map (λ (w : CellWrite). w.value) ws.now) }
     {
-        let copies = copy_writes(alloc, ws)?;
+        let values = copy_values(alloc, ws)?;
         self.groups.reserve(1)?;
         make_all_room(alloc, &mut self.slots, ws)?;
         add_all(alloc, &mut self.there, ws)?;
-        Ok(copies)
+        Ok(values)
     }
 
-    /// Adds a group, which needs no memory where there is room. `copies` are the same writes again.
-    pub fn project(&mut self, ws: Vec<CellWrite>, copies: Vec<CellWrite>, ends: u64)
+    /// Adds a group, which needs no memory where there is room. `values` are those of the writes again.
+    pub fn project(&mut self, ws: Vec<CellWrite>, values: Vec<CellValue>, ends: u64)
         requires room { HasRoom self.old.room ws.items }
         requires spare { 0 < self.old.spare }
-        requires copies { copies.items ≡ ws.items }
+        requires values { values.items ≡ map (λ (w : CellWrite). w.value) ws.items }
         requires above { EndBelow ends self.old.groups }
         ensures safe { self.new.safe ≡ self.old.safe }
         ensures groups { self.new.groups ≡ self.old.groups ++ record { ends = ends; writes = ws.items } ∷ [] }
     {
-        project_group(&mut self.slots, &mut self.there, &ws, copies, ends);
+        project_group(&mut self.slots, &mut self.there, &ws, values, ends);
         self.groups.push_back_reserved(Group {
             ends,
             writes: Items::from_vec(ws),
@@ -164,14 +165,14 @@ fn start_above(after: Option<&CellKey>) -> Bound<&CellKey>
     }
 }
 
-/// The same writes again.
-fn copy_writes(alloc: Global, ws: &[CellWrite]) -> Result<Vec<CellWrite>, AllocError>
-    ensures { IfOk result (λ same. same.items ≡ ws.now) }
+// The values of the writes again.
+fn copy_values(alloc: Global, ws: &[CellWrite]) -> Result<Vec<CellValue>, AllocError>
+    ensures { IfOk result (λ values. values.items ≡ map (λ (w : CellWrite). w.value) ws.now) }
 {
-    let mut copies = Vec::new(alloc);
+    let mut values = Vec::new(alloc);
     for w in ws {
-        let copy = w.copy(alloc)?;
-        copies.push(copy)?;
+        let value = w.value.copy(alloc)?;
+        values.push(value)?;
     }
-    Ok(copies)
+    Ok(values)
 }

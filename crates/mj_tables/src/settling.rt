@@ -1,6 +1,7 @@
 //! The writes of a group, all at once.
 
-ghost use Rattle.std.specs.Prelude.{◌≡◌, ◌≤◌, ◌∷◌, MatchOption, OnOk};
+ghost use Rattle.std.specs.Prelude.{◌≡◌, ◌≤◌, ◌∷◌, map, MatchOption, OnOk};
+ghost use Rattle.mj_cells.specs.declared.cell.CellWrite.{CellWrite};
 ghost use Rattle.mj_cells.specs.Table.{put_all};
 ghost use Rattle.mj_tables.specs.Layered.{all_writes, ended, unended, NoneEnded};
 ghost use Rattle.mj_tables.specs.Slots.{slots_of, safe_cells, rooms, all_room, all_projected, all_settled, AreLaid, SameAhead};
@@ -9,7 +10,7 @@ ghost use Rattle.mj_tables.specs.Listed.{KeepsThere};
 use crate::group::Group;
 use crate::listing::drop_absent;
 use crate::slot::{Slot, make_room, project, settle};
-use mj_cells::{CellKey, CellWrite};
+use mj_cells::{CellKey, CellValue, CellWrite};
 use std::alloc::{AllocError, Global};
 use std::collections::{BTreeMap, BTreeSet, VecDeque};
 
@@ -31,28 +32,36 @@ pub fn make_all_room(
 }
 
 // Puts the values of a group over what its keys hold.
-fn project_all(slots: &mut BTreeMap<CellKey, Slot>, ws: Vec<CellWrite>, ends: u64)
-    ensures { slots_of slots.new ≡ all_projected ends (slots_of slots.old) ws.items }
+fn project_all(
+    slots: &mut BTreeMap<CellKey, Slot>,
+    ws: &[CellWrite],
+    values: Vec<CellValue>,
+    ends: u64,
+)
+    requires { values.items ≡ map (λ (w : CellWrite). w.value) ws.now }
+    ensures { slots_of slots.new ≡ all_projected ends (slots_of slots.old) ws.now }
 {
+    let mut left = VecDeque::from(values);
     for w in ws {
-        let CellWrite { key, value } = w;
-        project(slots, &key, value, ends);
+        if let Some(value) = left.pop_front() {
+            project(slots, &w.key, value, ends);
+        }
     }
 }
 
-/// Puts a group over what its keys hold, whose set then has those of them that are there. `copies` are its writes again.
+/// Puts a group over what its keys hold, whose set then has those of them that are there. `values` are those of its writes again.
 pub fn project_group(
     slots: &mut BTreeMap<CellKey, Slot>,
     there: &mut BTreeSet<CellKey>,
     ws: &[CellWrite],
-    copies: Vec<CellWrite>,
+    values: Vec<CellValue>,
     ends: u64,
 )
-    requires { copies.items ≡ ws.now }
+    requires { values.items ≡ map (λ (w : CellWrite). w.value) ws.now }
     ensures slots { slots_of slots.new ≡ all_projected ends (slots_of slots.old) ws.now }
     ensures there { KeepsThere (slots_of slots.new) there.old ws.now there.new }
 {
-    project_all(slots, copies, ends);
+    project_all(slots, ws, values, ends);
     drop_absent(slots, there, ws);
 }
 
