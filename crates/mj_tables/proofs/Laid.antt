@@ -76,7 +76,7 @@ by_or : (ends : ℕ) (a b : Option CellValue) (o : Option Ahead) → option_or (
 by_or ends None b o = refl
 by_or ends (Some v) b o = refl
 
-ahead-all_projected : (ends : ℕ) (m : Slots) (ws : List CellWrite) → HasRoom (rooms m) ws → (q : CellKey) → ahead_at (all_projected ends m ws) q ≡ option_or (ahead_by ends (last_write q ws)) (ahead_at m q)
+pub ahead-all_projected : (ends : ℕ) (m : Slots) (ws : List CellWrite) → HasRoom (rooms m) ws → (q : CellKey) → ahead_at (all_projected ends m ws) q ≡ option_or (ahead_by ends (last_write q ws)) (ahead_at m q)
 ahead-all_projected ends m [] room q = refl
 ahead-all_projected ends m (w ∷ ws) room q =
     let n : Slots = altered m w.key (projecting w.value ends) in

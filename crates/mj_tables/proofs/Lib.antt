@@ -7,3 +7,4 @@ pub mod KeySets
 pub mod NextThere
 pub mod Found
 pub mod Sound
+pub mod LastWrites

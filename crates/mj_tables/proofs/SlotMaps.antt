@@ -10,7 +10,8 @@ use Rattle.mj_cells.specs.declared.cell.CellValue.{CellValue}
 use Rattle.mj_cells.specs.Cell.{same_key}
 use Rattle.mj_cells.proofs.Keys.{exact_key}
 use Rattle.mj_tables.specs.declared.slot.Slot.{Slot}
-use Rattle.mj_tables.specs.Slots.{Slots, safe_cells, rooms, ahead_at, empty_slot, with_room, altered, altered_at, projecting, settling, ahead_after, SameAhead}
+use Rattle.mj_tables.specs.Slots.{Slots, there_in, safe_cells, rooms, ahead_at, empty_slot, with_room, altered, altered_at, projecting, settling, ahead_after, SameAhead}
+use Rattle.mj_tables.specs.Listed.{there_at}
 
 pub at_key : (q k : CellKey) → q ≡ k → same_key q k ≡ true
 at_key q k e = ap (λ z. same_key z k) e ∙ eq_same exact_key k
@@ -34,6 +35,12 @@ get-with_room m k q = elim (get m k) as (λ o. get m k ≡ o → get (cond (is_s
     | inr other ↦ sym (ap (λ b. cond b (Some s) (get m q)) other)
   ]
 ] refl
+
+pub room_already : (m : Slots) (k : CellKey) (s : Slot) → get m k ≡ Some s → m ≡ with_room m k
+room_already m k s is = sym (ap (λ o. cond (is_some o) m (insert m k empty_slot)) is)
+
+pub room_added : (m : Slots) (k : CellKey) → get m k ≡ None → insert m k empty_slot ≡ with_room m k
+room_added m k none = sym (ap (λ o. cond (is_some o) m (insert m k empty_slot)) none)
 
 -- what is read of a slot
 module _ {A : Type 0} (read : Slot → Option A) where
@@ -67,11 +74,18 @@ none_ahead : (o : Option Slot) → option_and_then (λ (s : Slot). s.ahead) (opt
 none_ahead None = refl
 none_ahead (Some s) = refl
 
+none_there : (o : Option Slot) → option_and_then there_in (option_or o (Some empty_slot)) ≡ option_and_then there_in o
+none_there None = refl
+none_there (Some s) = refl
+
 pub safe-with_room : (m : Slots) (k : CellKey) → safe_cells (with_room m k) ≡ safe_cells m
 safe-with_room m k = collected_same (λ (s : Slot). s.safe) m (with_room m k) (reads_same (λ (s : Slot). s.safe) m (with_room m k) k _ (get-with_room m k) (none_room (get m k)))
 
 pub ahead-with_room : (m : Slots) (k : CellKey) → SameAhead m (with_room m k)
 ahead-with_room m k = reads_same (λ (s : Slot). s.ahead) m (with_room m k) k _ (get-with_room m k) (none_ahead (get m k))
+
+pub there-with_room : (m : Slots) (k q : CellKey) → there_at (with_room m k) q ≡ there_at m q
+there-with_room m k = reads_same there_in m (with_room m k) k _ (get-with_room m k) (none_there (get m k))
 
 there : {A : Type 0} (o : Option A) (x : A) → is_some (option_or o (Some x)) ≡ true
 there None x = refl

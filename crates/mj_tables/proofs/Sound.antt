@@ -3,7 +3,7 @@ use Rattle.std.proofs.Common.{◌≡◌, Bool, true, false, cond, not, ◌&&◌,
 use Rattle.std.specs.Prelude.{is_some}
 use Rattle.std.specs.Option.{option_and_then, option_or}
 use Rattle.std.specs.BTreeSet.{BTreeSet}
-use Rattle.std.proofs.lemmas.Bool.{true≢false}
+use Rattle.std.proofs.lemmas.Bool.{false≢true}
 use Rattle.mj_maps.specs.Map.{get}
 use Rattle.mj_cells.specs.declared.cell.CellKey.{CellKey}
 use Rattle.mj_cells.specs.declared.cell.CellValue.{CellValue}
@@ -13,10 +13,10 @@ use Rattle.mj_tables.specs.declared.group.Group.{Group}
 use Rattle.mj_tables.specs.declared.slot.Slot.{Slot}
 use Rattle.mj_tables.specs.Layered.{all_writes, writes_key, is_there, early_of, EndBelow, HasRoom}
 use Rattle.mj_tables.specs.Slots.{Slots, safe_cells, there_in, early_in, if_there, last_write, all_projected, SameAhead, AreLaid}
-use Rattle.mj_tables.specs.Listed.{has_key, there_at, AreThere, AllStay, KeepsThere, rooms_in, AreSound}
+use Rattle.mj_tables.specs.Listed.{has_key, there_at, AreThere, AllStay, KeepsThere, ListsThere, rooms_in, AreSound}
 use Rattle.mj_tables.proofs.KeySets.{room_of_slots, room_of_set}
 use Rattle.mj_tables.proofs.Laid.{early_at, laid_projected, safe-all_projected, all_writes-append}
-use Rattle.mj_tables.proofs.Writes.{get-put_all, put_all-append, some-last_write}
+use Rattle.mj_tables.proofs.Writes.{get-put_all, put_all-append, unwritten}
 
 there_in_early : (o : Option Slot) → option_and_then there_in o ≡ option_and_then if_there (option_and_then early_in o)
 there_in_early None = refl
@@ -32,6 +32,16 @@ some_there m gs laid k v is there = ap is_some (there_is m gs laid k ∙ ap (opt
 -- a set of just the keys that are there
 pub sound_start : (m : Slots) (s : BTreeSet CellKey) (gs : List Group) → AreLaid m gs → AreThere m s → AreSound m s gs
 sound_start m s gs laid are = record { laid = laid; there = λ k v is there. are k ∙ some_there m gs laid k v is there }
+
+there_of : (v : CellValue) → is_some (if_there v) ≡ true → is_there v ≡ true
+there_of v = elim (is_there v) as (λ b. is_some (cond b (Some v) None) ≡ true → b ≡ true) [ true ↦ λ h. refl | false ↦ λ h. h ]
+
+-- each key that is there stands in the set
+pub sound_lists : (m : Slots) (s : BTreeSet CellKey) (gs : List Group) → AreSound m s gs → ListsThere m s
+sound_lists m s gs sound k is = elim (get (early_of (safe_cells m) gs) k) as (λ o. get (early_of (safe_cells m) gs) k ≡ o → is_some (option_and_then if_there o) ≡ true → has_key s k ≡ true) [
+  | None ↦ λ _ h. absurd (false≢true h)
+  | Some v ↦ λ e h. sound.there k v e (there_of v h)
+] refl (ap is_some (sym (there_is m gs sound.laid k)) ∙ is)
 
 -- where the early cells stay and no key goes
 pub sound_same : (m : Slots) (s : BTreeSet CellKey) (gs : List Group) (n : Slots) (t : BTreeSet CellKey) (hs : List Group) → AreSound m s gs → AreLaid n hs → AllStay s t → early_of (safe_cells n) hs ≡ early_of (safe_cells m) gs → AreSound n t hs
@@ -51,10 +61,6 @@ early_after m gs g =
 
 kept : (h a b : Bool) → h ≡ true → a ≡ true → (h && (a || b)) ≡ true
 kept h a b x y = (λ i. x i && (y i || b))
-
-unwritten : (k : CellKey) (ws : List CellWrite) (o : Option CellValue) → last_write k ws ≡ o → writes_key k ws ≡ false → o ≡ None
-unwritten k ws None is not_one = refl
-unwritten k ws (Some v) is not_one = absurd (true≢false (sym (ap is_some is) ∙ some-last_write k ws ∙ not_one))
 
 module _ (m : Slots) (s : BTreeSet CellKey) (gs : List Group) (g : Group) where
   -- the keys that are there with the group had their place in the set

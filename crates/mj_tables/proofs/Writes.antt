@@ -2,6 +2,7 @@
 use Rattle.std.proofs.Common.{◌≡◌, ℕ, ◌+◌, ◌<◌, suc, length, drop, get_or, add-one, drop-cons, Bool, true, false, cond, ◌||◌, List, [], ◌∷◌, ◌++◌, Option, Some, None, refl, sym, ap, ◌∙◌}
 use Rattle.std.specs.Prelude.{option_map, is_some}
 use Rattle.std.specs.Option.{option_or}
+use Rattle.std.proofs.lemmas.Bool.{true≢false}
 use Rattle.mj_maps.specs.Map.{Map, get, insert}
 use Rattle.mj_maps.proofs.MapLaws.{get-insert}
 use Rattle.mj_cells.specs.declared.cell.CellKey.{CellKey}
@@ -58,6 +59,10 @@ some_or (Some y) false x = refl
 pub some-last_write : (k : CellKey) (ws : List CellWrite) → is_some (last_write k ws) ≡ writes_key k ws
 some-last_write k [] = refl
 some-last_write k (w ∷ ws) = some_or (last_write k ws) (same_key k w.key) w.value ∙ ap (λ b. same_key k w.key || b) (some-last_write k ws)
+
+pub unwritten : (k : CellKey) (ws : List CellWrite) (o : Option CellValue) → last_write k ws ≡ o → writes_key k ws ≡ false → o ≡ None
+unwritten k ws None is not_one = refl
+unwritten k ws (Some v) is not_one = absurd (true≢false (sym (ap is_some is) ∙ some-last_write k ws ∙ not_one))
 
 value_by : (ends : ℕ) (o : Option CellValue) → value_ahead (ahead_by ends o) ≡ o
 value_by ends None = refl

@@ -10,7 +10,7 @@ use Rattle.mj_cells.specs.Cell.{key_cmp, same_key}
 use Rattle.mj_tables.specs.declared.group.Group.{Group}
 use Rattle.mj_tables.specs.declared.slot.Slot.{Slot}
 use Rattle.mj_tables.specs.Layered.{is_there, writes_key, early_of}
-use Rattle.mj_tables.specs.Slots.{Slots, there_in, safe_cells, AreLaid}
+use Rattle.mj_tables.specs.Slots.{Slots, if_there, there_in, safe_cells, last_write, AreLaid}
 
 abbrev pub has_key : BTreeSet CellKey → CellKey → Bool
 has_key s k = list_any (λ x. same_key k x) s.keys
@@ -26,6 +26,14 @@ AreThere m s = (k : CellKey) → has_key s k ≡ is_some (there_at m k)
 -- each cell that is there has its key in the set
 abbrev pub HasThere : Map key_cmp CellValue → BTreeSet CellKey → Type 0
 HasThere cells s = (k : CellKey) (v : CellValue) → get cells k ≡ Some v → is_there v ≡ true → has_key s k ≡ true
+
+-- the same of slots
+abbrev pub ListsThere : Slots → BTreeSet CellKey → Type 0
+ListsThere m s = (k : CellKey) → is_some (there_at m k) ≡ true → has_key s k ≡ true
+
+-- what is there at each key of these writes is what the last of them says
+abbrev pub AreLast : Slots → List CellWrite → Type 0
+AreLast m ws = (k : CellKey) (v : CellValue) → last_write k ws ≡ Some v → there_at m k ≡ if_there v
 
 -- ---- room
 

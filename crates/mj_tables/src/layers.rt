@@ -10,9 +10,10 @@ ghost use Rattle.mj_cells.specs.Table.{put_all};
 ghost use Rattle.mj_tables.specs.Layered.{all_writes, writes_key, early_cells, next_there, EndBelow, HasRoom, ended, unended};
 
 use crate::group::Group;
-use crate::listing::{add_all, keys_there, there_at};
+use crate::listing::{keys_there, there_at};
 use crate::moving::slots_from;
-use crate::settling::{make_all_room, project_group, settle_ended};
+use crate::room::make_all_room;
+use crate::settling::{project_group, settle_ended};
 use crate::slot::Slot;
 use mj_base::Items;
 use mj_cells::{CellKey, CellTable, CellValue, CellView, CellWrite};
@@ -125,8 +126,7 @@ impl Layers {
     {
         let values = copy_values(alloc, ws)?;
         self.groups.reserve(1)?;
-        make_all_room(alloc, &mut self.slots, ws)?;
-        add_all(alloc, &mut self.there, ws)?;
+        make_all_room(alloc, &mut self.slots, &mut self.there, ws)?;
         Ok(values)
     }
 

@@ -5,6 +5,7 @@ mod group;
 mod layers;
 mod listing;
 mod moving;
+mod room;
 mod settling;
 mod slot;
 

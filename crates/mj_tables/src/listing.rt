@@ -1,11 +1,11 @@
-//! The keys whose early values are there, as a set, and room in it.
+//! The keys whose early values are there, as a set.
 
 ghost use Rattle.std.specs.Prelude.{◌≡◌, IfOk, OnOk};
 ghost use Rattle.std.specs.Option.{option_copied};
 ghost use Rattle.mj_tables.specs.Slots.{slots_of};
-ghost use Rattle.mj_tables.specs.Listed.{there_at, AreThere, Adds, AddsAll, Keeps, KeepsThere, AllStay};
+ghost use Rattle.mj_tables.specs.Listed.{there_at, AreThere, Adds, AreLast, Keeps, KeepsThere, AllStay};
 
-use crate::slot::Slot;
+use crate::slot::{Slot, is_there};
 use mj_cells::{CellKey, CellValue, CellWrite};
 use std::alloc::{AllocError, Global};
 use std::collections::{BTreeMap, BTreeSet};
@@ -37,29 +37,18 @@ pub fn keys_there(
     Ok(there)
 }
 
-// A key that stands in the set already needs no memory.
-fn add_key(alloc: Global, there: &mut BTreeSet<CellKey>, key: &CellKey) -> Result<(), AllocError>
+/// Adds a key, which needs no memory where it stands in the set already.
+pub fn add_key(
+    alloc: Global,
+    there: &mut BTreeSet<CellKey>,
+    key: &CellKey,
+) -> Result<(), AllocError>
     ensures ok { OnOk result (Adds there.old key.now there.new) }
     ensures stay { AllStay there.old there.new }
 {
     if !there.contains(key) {
         let copy = key.copy(alloc)?;
         there.insert(copy)?;
-    }
-    Ok(())
-}
-
-/// Makes room for the keys of these writes.
-pub fn add_all(
-    alloc: Global,
-    there: &mut BTreeSet<CellKey>,
-    ws: &[CellWrite],
-) -> Result<(), AllocError>
-    ensures ok { OnOk result (AddsAll there.old ws.now there.new) }
-    ensures stay { AllStay there.old there.new }
-{
-    for w in ws {
-        add_key(alloc, there, &w.key)?;
     }
     Ok(())
 }
@@ -73,11 +62,14 @@ fn drop_absent_key(slots: &BTreeMap<CellKey, Slot>, there: &mut BTreeSet<CellKey
     }
 }
 
-/// Takes the keys of these writes out that are not there.
+/// Takes the keys of these writes out that are not there. A key whose last write is there stays, so a write that is there needs no look-up.
 pub fn drop_absent(slots: &BTreeMap<CellKey, Slot>, there: &mut BTreeSet<CellKey>, ws: &[CellWrite])
+    requires { AreLast (slots_of slots.now) ws.now }
     ensures { KeepsThere (slots_of slots.now) there.old ws.now there.new }
 {
     for w in ws {
-        drop_absent_key(slots, there, &w.key);
+        if !is_there(&w.value) {
+            drop_absent_key(slots, there, &w.key);
+        }
     }
 }

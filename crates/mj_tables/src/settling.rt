@@ -1,35 +1,17 @@
 //! The writes of a group, all at once.
 
-ghost use Rattle.std.specs.Prelude.{◌≡◌, ◌≤◌, ◌∷◌, map, MatchOption, OnOk};
+ghost use Rattle.std.specs.Prelude.{◌≡◌, ◌≤◌, ◌∷◌, map, MatchOption};
 ghost use Rattle.mj_cells.specs.declared.cell.CellWrite.{CellWrite};
 ghost use Rattle.mj_cells.specs.Table.{put_all};
-ghost use Rattle.mj_tables.specs.Layered.{all_writes, ended, unended, NoneEnded};
-ghost use Rattle.mj_tables.specs.Slots.{slots_of, safe_cells, rooms, all_room, all_projected, all_settled, AreLaid, SameAhead};
+ghost use Rattle.mj_tables.specs.Layered.{all_writes, HasRoom, ended, unended, NoneEnded};
+ghost use Rattle.mj_tables.specs.Slots.{slots_of, safe_cells, rooms, all_projected, all_settled, AreLaid};
 ghost use Rattle.mj_tables.specs.Listed.{KeepsThere};
 
 use crate::group::Group;
 use crate::listing::drop_absent;
-use crate::slot::{Slot, make_room, project, settle};
+use crate::slot::{Slot, project, settle};
 use mj_cells::{CellKey, CellValue, CellWrite};
-use std::alloc::{AllocError, Global};
 use std::collections::{BTreeMap, BTreeSet, VecDeque};
-
-/// Makes room for the keys of these writes.
-pub fn make_all_room(
-    alloc: Global,
-    slots: &mut BTreeMap<CellKey, Slot>,
-    ws: &[CellWrite],
-) -> Result<(), AllocError>
-    ensures ok { OnOk result (slots_of slots.new ≡ all_room (slots_of slots.old) ws.now) }
-    ensures safe { safe_cells (slots_of slots.new) ≡ safe_cells (slots_of slots.old) }
-    ensures ahead { SameAhead (slots_of slots.old) (slots_of slots.new) }
-{
-    for w in ws {
-        let key = w.key.copy(alloc)?;
-        make_room(slots, key)?;
-    }
-    Ok(())
-}
 
 // Puts the values of a group over what its keys hold.
 fn project_all(
@@ -57,7 +39,8 @@ pub fn project_group(
     values: Vec<CellValue>,
     ends: u64,
 )
-    requires { values.items ≡ map (λ (w : CellWrite). w.value) ws.now }
+    requires room { HasRoom (rooms (slots_of slots.old)) ws.now }
+    requires values { values.items ≡ map (λ (w : CellWrite). w.value) ws.now }
     ensures slots { slots_of slots.new ≡ all_projected ends (slots_of slots.old) ws.now }
     ensures there { KeepsThere (slots_of slots.new) there.old ws.now there.new }
 {

@@ -1,12 +1,11 @@
-//! What a key holds, and the room for it.
+//! What a key holds.
 
-ghost use Rattle.std.specs.Prelude.{◌≡◌, OnOk, OnErr};
+ghost use Rattle.std.specs.Prelude.{◌≡◌};
 ghost use Rattle.std.specs.Option.{option_copied};
 ghost use Rattle.mj_tables.specs.Layered.{is_there};
-ghost use Rattle.mj_tables.specs.Slots.{early_in, there_in, slots_of, with_room, altered, projecting, settling, is_last};
+ghost use Rattle.mj_tables.specs.Slots.{early_in, there_in, slots_of, altered, projecting, settling, is_last};
 
 use mj_cells::{CellKey, CellValue};
-use std::alloc::{AllocError, Global};
 use std::collections::BTreeMap;
 
 /// The last value that is not safe yet, and where the last group that writes the key ends.
@@ -45,7 +44,8 @@ impl Slot {
     }
 }
 
-fn is_there(value: &CellValue) -> bool
+/// Whether a value is neither gone nor null.
+pub fn is_there(value: &CellValue) -> bool
     ensures { result ≡ is_there value.now }
 {
     match value {
@@ -53,21 +53,6 @@ fn is_there(value: &CellValue) -> bool
         CellValue::Gone => false,
         _ => true,
     }
-}
-
-/// Makes room for a key. Nothing that is held changes.
-pub fn make_room(slots: &mut BTreeMap<CellKey, Slot>, key: CellKey) -> Result<(), AllocError>
-    ensures ok { OnOk result (slots_of slots.new ≡ with_room (slots_of slots.old) key) }
-    ensures err { OnErr result (slots_of slots.new ≡ slots_of slots.old) }
-{
-    if !slots.contains_key(&key) {
-        let empty = Slot {
-            safe: None,
-            ahead: None,
-        };
-        slots.insert(key, empty)?;
-    }
-    Ok(())
 }
 
 /// Puts a value over what a key with room holds.

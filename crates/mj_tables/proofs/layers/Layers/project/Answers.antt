@@ -2,12 +2,18 @@ use Rattle.std.proofs.Common.{◌≡◌, ◌++◌, ◌∷◌, [], List, sym, ap,
 use Rattle.mj_cells.specs.declared.cell.CellWrite.{CellWrite}
 use Rattle.mj_tables.specs.declared.group.Group.{Group}
 use Rattle.mj_tables.specs.Layered.{HasRoom, EndBelow}
-use Rattle.mj_tables.specs.Slots.{Slots, slots_of, safe_cells, all_projected}
+use Rattle.mj_tables.specs.Slots.{Slots, slots_of, safe_cells, rooms, all_projected}
 use Rattle.mj_tables.specs.Listed.{KeepsThere, AreSound}
+use Rattle.mj_tables.proofs.KeySets.{room_of_slots}
 use Rattle.mj_tables.proofs.Laid.{safe-all_projected}
 use Rattle.mj_tables.proofs.Sound.{sound_projected}
 use Rattle.mj_tables.proofs.layers.Layers.project.Goals as goal
 use Rattle.mj_tables.proofs.layers.Layers.project.Goals.{After-push_back_reserved}
+
+pub project_group-requires-clause-room : goal.project_group-requires-clause-room
+project_group-requires-clause-room c =
+    subst (λ (ws : List CellWrite). HasRoom (rooms (slots_of c.self.inside.slots)) ws) (sym c.deref.ensures.value)
+    (room_of_slots (slots_of c.self.inside.slots) c.self.inside.there c.args.ws.items (subst (λ l. HasRoom l.room c.args.ws.items) (sym c.self.view_is) c.requires.room))
 
 writes_are : (c : After-push_back_reserved) → c.deref.result.now ≡ c.args.ws.items
 writes_are c = c.deref.ensures.value

@@ -1,6 +1,0 @@
-use Rattle.std.proofs.Common.{◌≡◌, drop}
-use Rattle.mj_tables.specs.Slots.{slots_of, safe_cells, all_room, SameAhead}
-use Rattle.mj_tables.proofs.settling.make_all_room.Given as goal
-
-abbrev pub invariant-loop-w : goal.invariant-loop-w
-invariant-loop-w l = (all_room (slots_of l.slots) (drop l.w-index l.ws) ≡ all_room (slots_of l.initial.slots) l.ws) × (safe_cells (slots_of l.slots) ≡ safe_cells (slots_of l.initial.slots)) × SameAhead (slots_of l.initial.slots) (slots_of l.slots)
