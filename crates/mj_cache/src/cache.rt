@@ -23,10 +23,10 @@ use crate::plain::plain_tree;
 use crate::ranges::{layers_in_range, writes_in_range};
 use crate::refusal::CacheRefusal;
 use mj_base::{Ino, RankNo};
-use mj_cells::{CellKey, CellTable, CellValue, CellView, CellWrite};
+use mj_cells::{CellKey, CellValue, CellView, CellWrite};
 use mj_index::{Index, Sums, early_index, project};
 use mj_judge::own_damage;
-use mj_tables::Layers;
+use mj_tables::{Layers, SafeCells};
 use mj_tree::PlainTree;
 use std::alloc::{AllocError, Global};
 use std::marker::Model;
@@ -70,14 +70,14 @@ fn examine(alloc: Global, rank: RankNo, layers: &Layers) -> Result<Index, CacheR
 }
 
 impl Cache {
-    /// The cache of a table without damage, or the table's first damage.
-    pub fn new(alloc: Global, table: CellTable, rank: RankNo) -> Result<Cache, CacheRefusal>
-        ensures cache { OnOk result (own_damage rank (table_of table) ≡ None) }
-        ensures holds { IfOk result (λ c. c ≡ begun rank table) }
-        ensures refused { IfErr result (IsRefusal (own_damage rank (table_of table))) }
+    /// The cache of cells whose table has no damage, or the table's first damage.
+    pub fn new(alloc: Global, cells: SafeCells, rank: RankNo) -> Result<Cache, CacheRefusal>
+        ensures cache { OnOk result (own_damage rank (table_of cells) ≡ None) }
+        ensures holds { IfOk result (λ c. c ≡ begun rank cells) }
+        ensures refused { IfErr result (IsRefusal (own_damage rank (table_of cells))) }
     {
-        table.all_fit();
-        let layers = Layers::of_table(alloc, table)?;
+        cells.all_fit();
+        let layers = Layers::of_cells(alloc, cells)?;
         let index = match examine(alloc, rank, &layers) {
             Ok(index) => index,
             Err(why) => return Err(why),

@@ -13,16 +13,17 @@ ghost use Rattle.mj_replay.specs.Pieces.{InGrammar};
 
 use crate::lumps::LumpDirs;
 use mj_base::{Ino, RankNo};
-use mj_cells::{CellKey, CellTable, CellValue, CellWrite};
+use mj_cells::{CellKey, CellValue, CellWrite};
 use mj_event::{Event, writes};
 use mj_fresh::new_cells;
 use mj_recovery::LiveEvent;
+use mj_tables::SafeCells;
 use std::alloc::{AllocError, Global};
 
 /// Cells, and what is kept of the directories of the lumps that wrote to them.
 #[derive(Drop)]
 pub struct Overlaid {
-    pub cells: CellTable,
+    pub cells: SafeCells,
     pub lumps: LumpDirs,
 }
 
@@ -36,12 +37,12 @@ fn number_in(value: &CellValue) -> u64
 }
 
 // Writes cells in order. After an error those before it are written.
-fn write_all(alloc: Global, cells: &mut CellTable, ws: Vec<CellWrite>) -> Result<(), AllocError>
+fn write_all(cells: &mut SafeCells, ws: Vec<CellWrite>) -> Result<(), AllocError>
     requires { AllByRecursion WriteFits ws.items }
     ensures { OnOk result (cells.new ≡ put_all cells.old ws.items) }
 {
     for w in ws {
-        cells.put(alloc, w)?;
+        cells.put(w)?;
     }
     Ok(())
 }
@@ -55,7 +56,7 @@ impl Overlaid {
     {
         let ws = writes(alloc, event)?;
         self.lumps.add_writes(rank, &ws);
-        write_all(alloc, &mut self.cells, ws)?;
+        write_all(&mut self.cells, ws)?;
         Ok(())
     }
 
@@ -76,8 +77,9 @@ pub fn lay_events(alloc: Global, rank: RankNo, events: &[LiveEvent]) -> Result<O
     ensures cells { IfOk result (λ x. table_of x.cells ≡ overlay (fresh_table rank) (journal_writes events.now)) }
     ensures lumps { IfOk result (λ x. (next : ℕ) → none_strange next x.lumps ≡ lumps_known rank next (journal_writes events.now)) }
 {
+    let formatted = new_cells(alloc, rank)?;
     let mut found = Overlaid {
-        cells: new_cells(alloc, rank)?,
+        cells: SafeCells::of_table(alloc, formatted)?,
         lumps: LumpDirs::new(),
     };
     for e in events {

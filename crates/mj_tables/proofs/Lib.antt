@@ -8,3 +8,4 @@ pub mod NextThere
 pub mod Found
 pub mod Sound
 pub mod LastWrites
+pub mod AllSafe

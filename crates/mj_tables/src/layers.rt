@@ -11,12 +11,12 @@ ghost use Rattle.mj_tables.specs.Layered.{all_writes, writes_key, early_cells, n
 
 use crate::group::Group;
 use crate::listing::{keys_there, there_at};
-use crate::moving::slots_from;
 use crate::room::make_all_room;
+use crate::safe_cells::SafeCells;
 use crate::settling::{project_group, settle_ended};
 use crate::slot::Slot;
 use mj_base::Items;
-use mj_cells::{CellKey, CellTable, CellValue, CellView, CellWrite};
+use mj_cells::{CellKey, CellValue, CellView, CellWrite};
 use std::alloc::{AllocError, Global};
 use std::collections::{BTreeMap, BTreeSet, VecDeque};
 use std::marker::Model;
@@ -47,12 +47,12 @@ impl Model for Layers {
 }
 
 impl Layers {
-    /// The cells of a table, all of them safe.
-    pub fn of_table(alloc: Global, table: CellTable) -> Result<Layers, AllocError>
-        ensures safe { IfOk result (λ l. l.safe ≡ table) }
+    /// These cells, all of them safe.
+    pub fn of_cells(alloc: Global, cells: SafeCells) -> Result<Layers, AllocError>
+        ensures safe { IfOk result (λ l. l.safe ≡ cells) }
         ensures groups { IfOk result (λ l. l.groups ≡ []) }
     {
-        let slots = slots_from(alloc, table)?;
+        let slots = cells.into_slots();
         let there = keys_there(alloc, &slots)?;
         Ok(Layers {
             slots,

@@ -6,8 +6,10 @@ mod layers;
 mod listing;
 mod moving;
 mod room;
+mod safe_cells;
 mod settling;
 mod slot;
 
 pub use group::Group;
 pub use layers::Layers;
+pub use safe_cells::SafeCells;

@@ -11,6 +11,7 @@ use crate::new_cells;
 use mj_base::{ClientId, Ino, InodeRecord, Kind, Name, RankNo, Target, Tid};
 use mj_cache::{Cache, CacheRefusal};
 use mj_cells::{CellKey, CellTable, CellValue, CellWrite};
+use mj_tables::SafeCells;
 use std::alloc::Global;
 use std::test::Fail;
 
@@ -189,7 +190,8 @@ fn damaged(alloc: Global, rank: RankNo, cells: &[Cell], sessions: u32) -> Result
 }
 
 fn named(alloc: Global, table: CellTable, rank: RankNo) -> Result<String, Fail> {
-    match Cache::new(alloc, table, rank) {
+    let cells = SafeCells::of_table(alloc, table)?;
+    match Cache::new(alloc, cells, rank) {
         Ok(_) => Ok(String::from_str(alloc, "none")?),
         Err(CacheRefusal::NotTree(damage)) => Ok(format!(in alloc; "{damage:?}")?),
         Err(CacheRefusal::Memory) => Err(Fail::from("memory ran out")),

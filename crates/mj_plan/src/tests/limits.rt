@@ -9,6 +9,7 @@ use crate::new_cells;
 use mj_base::RankNo;
 use mj_cache::Cache;
 use mj_cells::{CellKey, CellValue, CellWrite};
+use mj_tables::SafeCells;
 use mj_tree::{ClientRequest, Op, Reply};
 use std::alloc::Global;
 use std::test::Fail;
@@ -143,6 +144,7 @@ fn near_the_last_inode(alloc: Global) -> Result<Cache, Fail>
             value: CellValue::Number(u64::MAX - 1),
         },
     )?;
+    let cells = SafeCells::of_table(alloc, cells)?;
     let cache = Cache::new(alloc, cells, rank)?;
     Ok(cache)
 }

@@ -14,6 +14,7 @@ use crate::{new_cells, plan};
 use mj_base::RankNo;
 use mj_cache::Cache;
 use mj_event::{Event, writes};
+use mj_tables::SafeCells;
 use mj_tree::{ClientRequest, Op, Reply};
 use std::alloc::Global;
 use std::test::Fail;
@@ -24,6 +25,7 @@ pub fn begin(alloc: Global) -> Result<Cache, Fail>
 {
     let rank = RankNo::new(0).ok_or("a rank")?;
     let cells = new_cells(alloc, rank)?;
+    let cells = SafeCells::of_table(alloc, cells)?;
     let cache = Cache::new(alloc, cells, rank)?;
     Ok(cache)
 }
