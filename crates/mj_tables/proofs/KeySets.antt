@@ -1,5 +1,5 @@
 -- Sets of keys: what is added, what is taken out, and the room in them.
-use Rattle.std.proofs.Common.{◌≡◌, Bool, true, false, cond, not, ◌&&◌, ◌||◌, List, [], ◌∷◌, Option, Some, None, refl, sym, ap, ◌∙◌, inl, inr}
+use Rattle.std.proofs.Common.{◌≡◌, Bool, true, false, cond, not, ◌&&◌, ◌||◌, List, [], ◌∷◌, ◌++◌, Option, Some, None, refl, sym, ap, ◌∙◌, inl, inr}
 use Rattle.std.specs.Prelude.{IsSome, is_some}
 use Rattle.std.specs.List.{list_any}
 use Rattle.std.specs.Option.{option_and_then}
@@ -40,11 +40,25 @@ one_added s n k more q = sym (set_is n q) ∙ more q ∙ true_or (is_at (tree_cm
 pub one_dropped : (s n : BTreeSet CellKey) (k : CellKey) → ((q : CellKey) → contains tree_cmp n q ≡ cond (is_at (tree_cmp k) q) false (contains tree_cmp s q)) → (q : CellKey) → has_key n q ≡ cond (same_key q k) false (has_key s q)
 one_dropped s n k less q = sym (set_is n q) ∙ less q ∙ (λ i. cond (at_is k q i) false (set_is s q i))
 
--- ---- room for keys
+-- ---- a list of keys as a set
 
 or_true : (a b : Bool) → b ≡ true → (a || b) ≡ true
 or_true true b h = refl
 or_true false b h = h
+
+or_swaps : (a b c : Bool) → (b || (a || c)) ≡ (a || (b || c))
+or_swaps a true c = sym (or_true a true refl)
+or_swaps a false c = refl
+
+pub one_pushed : (ks : List CellKey) (k : CellKey) → Adds (record { keys = ks }) k (record { keys = ks ++ k ∷ [] })
+one_pushed [] k q = refl
+one_pushed (x ∷ ks) k q = ap (λ b. same_key q x || b) (one_pushed ks k q) ∙ or_swaps (same_key q k) (same_key q x) (has_key (record { keys = ks }) q)
+
+-- a set that was made of the list has its keys
+pub made_of : (ks : List CellKey) (n : BTreeSet CellKey) → ((q : CellKey) → contains tree_cmp n q ≡ contains tree_cmp (record { keys = ks }) q) → (q : CellKey) → has_key n q ≡ has_key (record { keys = ks }) q
+made_of ks n made q = sym (set_is n q) ∙ made q ∙ set_is (record { keys = ks }) q
+
+-- ---- room for keys
 
 pub adds_stay : (s : BTreeSet CellKey) (k : CellKey) (n : BTreeSet CellKey) → Adds s k n → AllStay s n
 adds_stay s k n adds q h = adds q ∙ or_true (same_key q k) (has_key s q) h

@@ -1,9 +1,9 @@
 -- Slots that hold what groups write.
 use Rattle.std.proofs.Common.{◌≡◌, ℕ, ◌<◌, ◌≤◌, arith, Bool, true, false, cond, ◌||◌, List, [], ◌∷◌, ◌++◌, Option, Some, None, refl, sym, ap, subst, ◌∙◌, append_assoc}
-use Rattle.std.specs.Prelude.{is_some, IsSome, nat_le, nat_lt}
+use Rattle.std.specs.Prelude.{is_some, nat_le, nat_lt}
 use Rattle.std.specs.List.{AllByRecursion}
 use Rattle.std.specs.Option.{option_or, option_and_then}
-use Rattle.std.proofs.lemmas.Bool.{true≢false, false≢true}
+use Rattle.std.proofs.lemmas.Bool.{true≢false}
 use Rattle.mj_maps.specs.Map.{Map, get}
 use Rattle.mj_maps.proofs.MapLaws.{get-collect, same_map, some_same, none_some, eq_same}
 use Rattle.mj_cells.specs.declared.cell.CellKey.{CellKey}
@@ -16,23 +16,11 @@ use Rattle.mj_tables.specs.declared.group.Group.{Group}
 use Rattle.mj_tables.specs.declared.slot.Ahead.{Ahead}
 use Rattle.mj_tables.specs.declared.slot.Slot.{Slot}
 use Rattle.mj_tables.specs.Layered.{all_writes, writes_key, early_of, EndBelow, EndsRise, HasRoom, NoneEnded, ended, unended}
-use Rattle.mj_tables.specs.Slots.{Slots, safe_cells, early_slots, early_in, value_ahead, rooms, ahead_at, ahead_after, ahead_by, ahead_of, last_write, altered, projecting, settling, with_room, all_room, all_projected, all_settled, SameAhead, AreLaid}
-use Rattle.mj_tables.proofs.SlotMaps.{safe-with_room, ahead-with_room, some-with_room, some_stays-with_room, rooms-altered, get-rooms, safe-projecting, ahead-projecting, safe-settling, ahead-settling}
+use Rattle.mj_tables.specs.Slots.{Slots, safe_cells, early_slots, early_in, value_ahead, rooms, ahead_at, ahead_after, ahead_by, ahead_of, last_write, altered, projecting, settling, with_room, all_room, all_projected, all_settled, AreLaid}
+use Rattle.mj_tables.proofs.SlotMaps.{some-with_room, some_stays-with_room, rooms-altered, get-rooms, safe-projecting, ahead-projecting, safe-settling, ahead-settling}
 use Rattle.mj_tables.proofs.Writes.{get-put_all, put_all-append, some-last_write, value-ahead_of, ahead_of-append, some-ahead_of}
 
-pub some_true : {A : Type 0} (o : Option A) → IsSome o → is_some o ≡ true
-some_true None h = absurd (false≢true h)
-some_true (Some x) h = refl
-
 -- ---- room for all
-
-pub safe-all_room : (m : Slots) (ws : List CellWrite) → safe_cells (all_room m ws) ≡ safe_cells m
-safe-all_room m [] = refl
-safe-all_room m (w ∷ ws) = safe-all_room (with_room m w.key) ws ∙ safe-with_room m w.key
-
-pub ahead-all_room : (m : Slots) (ws : List CellWrite) → SameAhead m (all_room m ws)
-ahead-all_room m [] k = refl
-ahead-all_room m (w ∷ ws) k = ahead-all_room (with_room m w.key) ws k ∙ ahead-with_room m w.key k
 
 some-all_room : (m : Slots) (ws : List CellWrite) (q : CellKey) → is_some (get m q) ≡ true → is_some (get (all_room m ws) q) ≡ true
 some-all_room m [] q h = h
@@ -59,10 +47,6 @@ pub room-all_room : (m : Slots) (ws : List CellWrite) → HasRoom (rooms (all_ro
 room-all_room m ws = room_of_there (all_room m ws) ws (there-all_room m ws)
 
 -- ---- a group over the others
-
-pub rooms-all_projected : (ends : ℕ) (m : Slots) (ws : List CellWrite) → rooms (all_projected ends m ws) ≡ rooms m
-rooms-all_projected ends m [] = refl
-rooms-all_projected ends m (w ∷ ws) = rooms-all_projected ends (altered m w.key (projecting w.value ends)) ws ∙ rooms-altered m w.key (projecting w.value ends)
 
 pub safe-all_projected : (ends : ℕ) (m : Slots) (ws : List CellWrite) → safe_cells (all_projected ends m ws) ≡ safe_cells m
 safe-all_projected ends m [] = refl

@@ -12,7 +12,7 @@ use Rattle.mj_cells.specs.Table.{put_all}
 use Rattle.mj_tables.specs.declared.group.Group.{Group}
 use Rattle.mj_tables.specs.declared.slot.Slot.{Slot}
 use Rattle.mj_tables.specs.Layered.{all_writes, writes_key, is_there, early_of, EndBelow, HasRoom}
-use Rattle.mj_tables.specs.Slots.{Slots, safe_cells, there_in, early_in, if_there, last_write, all_projected, SameAhead, AreLaid}
+use Rattle.mj_tables.specs.Slots.{Slots, safe_cells, there_in, early_in, if_there, last_write, all_projected, AreLaid}
 use Rattle.mj_tables.specs.Listed.{has_key, there_at, AreThere, AllStay, KeepsThere, ListsThere, rooms_in, AreSound}
 use Rattle.mj_tables.proofs.KeySets.{room_of_slots, room_of_set}
 use Rattle.mj_tables.proofs.Laid.{early_at, laid_projected, safe-all_projected, all_writes-append}
@@ -46,11 +46,6 @@ sound_lists m s gs sound k is = elim (get (early_of (safe_cells m) gs) k) as (λ
 -- where the early cells stay and no key goes
 pub sound_same : (m : Slots) (s : BTreeSet CellKey) (gs : List Group) (n : Slots) (t : BTreeSet CellKey) (hs : List Group) → AreSound m s gs → AreLaid n hs → AllStay s t → early_of (safe_cells n) hs ≡ early_of (safe_cells m) gs → AreSound n t hs
 sound_same m s gs n t hs sound laid stay same = record { laid = laid; there = λ k v is there. stay k (sound.there k v (ap (λ c. get c k) (sym same) ∙ is) there) }
-
--- room takes nothing away
-pub sound_room : (m : Slots) (s : BTreeSet CellKey) (gs : List Group) (n : Slots) (t : BTreeSet CellKey) → AreSound m s gs → safe_cells n ≡ safe_cells m → SameAhead m n → AllStay s t → AreSound n t gs
-sound_room m s gs n t sound safe ahead stay =
-    sound_same m s gs n t gs sound (record { ahead = λ k. ahead k ∙ sound.laid.ahead k; rise = sound.laid.rise }) stay (ap (λ c. early_of c gs) safe)
 
 -- ---- a group over the others
 

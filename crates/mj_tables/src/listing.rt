@@ -20,21 +20,21 @@ pub fn there_at<'a>(slots: &'a BTreeMap<CellKey, Slot>, key: &CellKey) -> Option
     }
 }
 
-/// The keys that are there.
+/// The keys that are there. They come in order, so that the set is made at once.
 pub fn keys_there(
     alloc: Global,
     slots: &BTreeMap<CellKey, Slot>,
 ) -> Result<BTreeSet<CellKey>, AllocError>
     ensures { IfOk result (λ there. AreThere (slots_of slots.now) there) }
 {
-    let mut there = BTreeSet::new(alloc);
+    let mut keys = Vec::new(alloc);
     for (key, slot) in slots.iter() {
         if slot.there().is_some() {
             let copy = key.copy(alloc)?;
-            there.insert(copy)?;
+            keys.push(copy)?;
         }
     }
-    Ok(there)
+    keys.into_iter().collect(alloc)
 }
 
 /// Adds a key, which needs no memory where it stands in the set already.
