@@ -1,7 +1,7 @@
 -- What the rows of damage look at, cell by cell, and how often numbers stand in lists.
-use Rattle.std.specs.Prelude.{ℕ, ◌+◌, Bool, true, ◌==◌, ◌||◌, nat_lt, List, filter, Option, Some, None, option_map, option_and_then, unwrap_or, if◌then◌else◌}
-use Rattle.mj_maps.specs.Map.{Map, get, from_entries}
-use Rattle.mj_maps.specs.Orders.{nat_cmp}
+use Rattle.std.specs.Prelude.{ℕ, ◌+◌, Bool, true, ◌==◌, ◌||◌, nat_eq, nat_lt, List, filter, Option, Some, None, option_map, option_and_then, unwrap_or, if◌then◌else◌}
+use Rattle.std.specs.HashMap as hash
+use Rattle.mj_maps.specs.Map.{Map, get}
 use Rattle.mj_base.specs.Record.{same_kind}
 use Rattle.mj_base.specs.declared.record.Kind.{Kind}
 use Rattle.mj_base.specs.declared.record.InodeRecord.{InodeRecord}
@@ -19,7 +19,7 @@ use Rattle.mj_judge.specs.declared.counts.Counts.{Counts}
 
 -- how often a number was counted
 abbrev pub count_in : Counts → ℕ → ℕ
-count_in c n = unwrap_or (get (from_entries {R = nat_cmp} c.kept.entries) n) 0
+count_in c n = unwrap_or (hash.get nat_eq c.kept n) 0
 
 abbrev pub is_counted : Counts → ℕ → Bool
 is_counted c n = nat_lt 0 (count_in c n)

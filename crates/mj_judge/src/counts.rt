@@ -5,12 +5,12 @@ ghost use Rattle.mj_recovery.specs.Damage.{times};
 
 use mj_base::{ClientId, Ino};
 use std::alloc::{AllocError, Global};
-use std::collections::BTreeMap;
+use std::collections::HashMap;
 
 /// How often each number was counted.
 #[derive(Drop)]
 pub struct Counts {
-    kept: BTreeMap<u64, u64>,
+    kept: HashMap<u64, u64>,
 }
 
 impl Counts {
@@ -20,7 +20,7 @@ impl Counts {
         ensures { (k : ℕ) → count_in result k ≡ 0 }
     {
         Counts {
-            kept: BTreeMap::new(alloc),
+            kept: HashMap::new(alloc),
         }
     }
 
@@ -46,8 +46,7 @@ impl Counts {
         requires { count_in self.old n + 1 < 2 ^ 64 }
         ensures { OnOk result ((k : ℕ) → count_in self.new k ≡ (if k == n then count_in self.old n + 1 else count_in self.old k)) }
     {
-        let count = self.count(n);
-        self.kept.insert(n, count + 1)?;
+        *self.kept.entry(n)?.or_insert(0) += 1;
         Ok(())
     }
 
