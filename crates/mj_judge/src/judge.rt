@@ -176,9 +176,12 @@ fn wrong_opens(
 ) -> Result<Vec<(ClientId, Ino)>, AllocError>
     ensures { IfOk result (λ v. v.items ≡ wrong_opens rank (early_cells layers.now) (map cell_of cells.now) dirs.now.keys) }
 {
+    let opens = opens(alloc, cells)?;
+    if opens.is_empty() {
+        return Ok(Vec::new(alloc));
+    }
     let inodes = kind_inodes(alloc, rank, dirs, Kind::File, cells)?;
     let files = Counts::of_inodes(alloc, &inodes)?;
-    let opens = opens(alloc, cells)?;
     bad_opens(alloc, layers, &files, &opens)
 }
 
