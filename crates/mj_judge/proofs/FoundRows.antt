@@ -203,7 +203,7 @@ module _ (rank : ℕ) (m : Map key_cmp CellValue) (dirs : List ℕ) (is : AreDir
   dirs_is = λ j. (filter_map_map dentry_entry (λ (e : Entry). e.0.0) cs ∙ ap (map (λ (e : Entry). e.0.0)) (sym (dentries_are m))) j
       ++ (filter_map_map head_entry (λ (e : ℕ × ℕ). e.0) cs ∙ ap (map (λ (e : ℕ × ℕ). e.0)) (sym (heads_are m))) j
 
-  beyond_is : beyond rank (next_of m) cs dirs ≡ row.out_of_range rank (unwrap_or t.next 0) (inos rs) (cell_dirs t) es
+  beyond_is : beyond rank (next_of m) (fulls rank cs dirs) cs ≡ row.out_of_range rank (unwrap_or t.next 0) (inos rs) (cell_dirs t) es
   beyond_is = λ j. let next = unwrap_or (sym (next_is m) j) 0 in
       row.low_next rank next ++ filter (λ i. not (row.is_given rank next i)) (fulls_are j) ++ filter (λ d. not (row.is_known rank next d)) (dirs_is j)
       ++ (filter_map_twice dentry_entry (row.misnamed rank) cs ∙ ap (filter_map (row.misnamed rank)) (sym (dentries_are m))) j
@@ -263,7 +263,7 @@ module _ (rank : ℕ) (m : Map key_cmp CellValue) (dirs : List ℕ) (is : AreDir
   over_are = ap (λ (f : ℕ → ℕ). over_entries f dirs) (λ j d. entry_at d j)
       ∙ ap (option_map (entry_count (tree_of rank t))) (least_filter (λ d. nat_lt most_entries (entry_count (tree_of rank t) d)) dirs (reachable t) is)
 
-  too_much_is : AreDistinct (inos rs) → too_much rank cs dirs ≡ row.over_limit (tree_of rank t) (reachable t)
+  too_much_is : AreDistinct (inos rs) → too_much (link_times cs dirs) (fulls rank cs dirs) cs dirs ≡ row.over_limit (tree_of rank t) (reachable t)
   too_much_is d = λ j. first_some (over_are j ∷ over most_inodes (kept_are d j) ∷ over most_sessions (sessions_are_many j) ∷ over most_opens (opens_are_many j) ∷ [])
 
   -- the rows after that of two full dentries of an inode
@@ -271,10 +271,10 @@ module _ (rank : ℕ) (m : Map key_cmp CellValue) (dirs : List ℕ) (is : AreDir
   found_rest =
       option_map damage.NoPrimary (least (lone rank cs dirs))
       ∷ option_map damage.BadLinks (least (wrong_counts rank cs dirs))
-      ∷ option_map damage.BadNext (least (beyond rank (next_of m) cs dirs))
+      ∷ option_map damage.BadNext (least (beyond rank (next_of m) (fulls rank cs dirs) cs))
       ∷ first_open (wrong_opens rank m cs dirs)
       ∷ option_map damage.BadSession (least (wrong_replies m cs))
-      ∷ option_map damage.OverLimit (too_much rank cs dirs)
+      ∷ option_map damage.OverLimit (too_much (link_times cs dirs) (fulls rank cs dirs) cs dirs)
       ∷ []
 
   abbrev table_rest : List (Option Damage)

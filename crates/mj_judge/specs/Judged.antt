@@ -56,10 +56,11 @@ wrong_counts rank cs dirs = filter_map (miscounted_ino (held rank dirs) (link_ti
 abbrev pub all_dirs : List Cell → List ℕ
 all_dirs cs = filter_map dentry_dir cs ++ filter_map head_dir cs
 
-abbrev pub beyond : ℕ → ℕ → List Cell → List ℕ → List ℕ
-beyond rank next cs dirs =
+-- what shows that the next inode is too low, where these are the inodes of full dentries
+abbrev pub beyond : ℕ → ℕ → List ℕ → List Cell → List ℕ
+beyond rank next is cs =
     low_next rank next
-    ++ filter (λ i. not (is_given rank next i)) (fulls rank cs dirs)
+    ++ filter (λ i. not (is_given rank next i)) is
     ++ filter (λ d. not (is_known rank next d)) (all_dirs cs)
     ++ filter_map (misnamed_ino rank) cs
 
@@ -76,8 +77,9 @@ wrong_replies m cs = map (λ (e : (ℕ × ℕ) × ℕ). e.0.0) (filter (replies_
 abbrev pub kept_inodes : ℕ → List Cell → List ℕ → List ℕ
 kept_inodes rank cs dirs = kept_of (link_times cs dirs) (open_times cs) (fulls rank cs dirs)
 
-abbrev pub too_much : ℕ → List Cell → List ℕ → Option ℕ
-too_much rank cs dirs = first_some (over_entries (entry_times cs dirs) dirs ∷ over most_inodes (length (kept_inodes rank cs dirs)) ∷ over most_sessions (length (filter_map session_entry cs)) ∷ over most_opens (length (opens cs)) ∷ [])
+-- the first number past its limit, by how many links name each inode and the inodes of full dentries
+abbrev pub too_much : (ℕ → ℕ) → List ℕ → List Cell → List ℕ → Option ℕ
+too_much links is cs dirs = first_some (over_entries (entry_times cs dirs) dirs ∷ over most_inodes (length (kept_of links (open_times cs) is)) ∷ over most_sessions (length (filter_map session_entry cs)) ∷ over most_opens (length (opens cs)) ∷ [])
 
 abbrev pub found_damage : ℕ → Map key_cmp CellValue → List Cell → List ℕ → Option Damage
 found_damage rank m cs dirs = first_some (
@@ -85,8 +87,8 @@ found_damage rank m cs dirs = first_some (
     ∷ option_map damage.TwoPrimaries (least (twice (fulls rank cs dirs)))
     ∷ option_map damage.NoPrimary (least (lone rank cs dirs))
     ∷ option_map damage.BadLinks (least (wrong_counts rank cs dirs))
-    ∷ option_map damage.BadNext (least (beyond rank (next_of m) cs dirs))
+    ∷ option_map damage.BadNext (least (beyond rank (next_of m) (fulls rank cs dirs) cs))
     ∷ first_open (wrong_opens rank m cs dirs)
     ∷ option_map damage.BadSession (least (wrong_replies m cs))
-    ∷ option_map damage.OverLimit (too_much rank cs dirs)
+    ∷ option_map damage.OverLimit (too_much (link_times cs dirs) (fulls rank cs dirs) cs dirs)
     ∷ [])

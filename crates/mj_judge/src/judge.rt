@@ -6,7 +6,7 @@ ghost use Rattle.mj_base.specs.declared.damage.Damage.TheVariants as damage;
 ghost use Rattle.mj_cells.specs.Next.{cell_of};
 ghost use Rattle.mj_tables.specs.Layered.{early_cells};
 ghost use Rattle.mj_recovery.specs.Damage.{least, twice, headless, first_open, over, over_entries};
-ghost use Rattle.mj_judge.specs.Rows.{count_in, version_at};
+ghost use Rattle.mj_judge.specs.Rows.{count_in, version_at, kept_of};
 ghost use Rattle.mj_judge.specs.Judged.{held, lone, wrong_counts, all_dirs, beyond, next_of, wrong_opens, wrong_replies, too_much, kept_inodes, found_damage, entry_times, link_times, open_times};
 
 use crate::counts::Counts;
@@ -97,24 +97,26 @@ fn wrong_counts(
     alloc: Global,
     rank: RankNo,
     dirs: &BTreeSet<Ino>,
+    links: &Counts,
     cells: &[CellView<'_>],
 ) -> Result<Vec<Ino>, AllocError>
+    requires { (k : ℕ) → count_in links.now k ≡ link_times (map cell_of cells.now) dirs.now.keys k }
     ensures { IfOk result (λ v. v.items ≡ wrong_counts rank (map cell_of cells.now) dirs.now.keys) }
 {
-    let inodes = link_inodes(alloc, dirs, cells)?;
-    let links = Counts::of_inodes(alloc, &inodes)?;
-    miscounted(alloc, rank, dirs, &links, cells)
+    miscounted(alloc, rank, dirs, links, cells)
 }
 
 fn bad_links(
     alloc: Global,
     rank: RankNo,
     dirs: &BTreeSet<Ino>,
+    links: &Counts,
     cells: &[CellView<'_>],
 ) -> Result<Option<Damage>, AllocError>
+    requires { (k : ℕ) → count_in links.now k ≡ link_times (map cell_of cells.now) dirs.now.keys k }
     ensures { IfOk result (λ o. o ≡ option_map damage.BadLinks (least (wrong_counts rank (map cell_of cells.now) dirs.now.keys))) }
 {
-    let found = wrong_counts(alloc, rank, dirs, cells)?;
+    let found = wrong_counts(alloc, rank, dirs, links, cells)?;
     match least(&found) {
         Some(ino) => Ok(Some(Damage::BadLinks(ino))),
         None => Ok(None),
@@ -135,16 +137,15 @@ fn beyond(
     alloc: Global,
     rank: RankNo,
     next: Ino,
-    dirs: &BTreeSet<Ino>,
+    inodes: &[Ino],
     cells: &[CellView<'_>],
 ) -> Result<Vec<Ino>, AllocError>
-    ensures { IfOk result (λ v. v.items ≡ beyond rank next (map cell_of cells.now) dirs.now.keys) }
+    ensures { IfOk result (λ v. v.items ≡ beyond rank next inodes.now (map cell_of cells.now)) }
 {
-    let inodes = full_inodes(alloc, rank, dirs, cells)?;
     let all = cell_dirs(alloc, cells)?;
     let mut found = Vec::new(alloc);
     push_low(&mut found, rank, next)?;
-    push_not_given(&mut found, rank, next, &inodes)?;
+    push_not_given(&mut found, rank, next, inodes)?;
     push_unknown(&mut found, rank, next, &all)?;
     push_misnamed(alloc, &mut found, rank, cells)?;
     Ok(found)
@@ -154,13 +155,13 @@ fn bad_next(
     alloc: Global,
     rank: RankNo,
     layers: &Layers,
-    dirs: &BTreeSet<Ino>,
+    inodes: &[Ino],
     cells: &[CellView<'_>],
 ) -> Result<Option<Damage>, AllocError>
-    ensures { IfOk result (λ o. o ≡ option_map damage.BadNext (least (beyond rank (next_of (early_cells layers.now)) (map cell_of cells.now) dirs.now.keys))) }
+    ensures { IfOk result (λ o. o ≡ option_map damage.BadNext (least (beyond rank (next_of (early_cells layers.now)) inodes.now (map cell_of cells.now)))) }
 {
     let next = next_ino(layers).unwrap_or(Ino(0));
-    let found = beyond(alloc, rank, next, dirs, cells)?;
+    let found = beyond(alloc, rank, next, inodes, cells)?;
     match least(&found) {
         Some(ino) => Ok(Some(Damage::BadNext(ino))),
         None => Ok(None),
@@ -261,6 +262,19 @@ pub fn entry_counts(
     Ok(counts)
 }
 
+// Those that a link or an open keeps.
+fn kept_among(
+    alloc: Global,
+    links: &Counts,
+    inodes: &[Ino],
+    cells: &[CellView<'_>],
+) -> Result<Vec<Ino>, AllocError>
+    ensures { IfOk result (λ v. v.items ≡ kept_of (count_in links.now) (open_times (map cell_of cells.now)) inodes.now) }
+{
+    let opens = open_counts(alloc, cells)?;
+    kept_of(alloc, links, &opens, inodes)
+}
+
 /// The inodes of full dentries that a link or an open keeps.
 pub fn kept_inodes(
     alloc: Global,
@@ -271,9 +285,8 @@ pub fn kept_inodes(
     ensures { IfOk result (λ v. v.items ≡ kept_inodes rank (map cell_of cells.now) dirs.now.keys) }
 {
     let links = link_counts(alloc, dirs, cells)?;
-    let opens = open_counts(alloc, cells)?;
     let inodes = full_inodes(alloc, rank, dirs, cells)?;
-    kept_of(alloc, &links, &opens, &inodes)
+    kept_among(alloc, &links, &inodes, cells)
 }
 
 fn over_entries(
@@ -299,17 +312,18 @@ fn over(limit: usize, n: usize) -> Option<u64>
 
 fn too_much(
     alloc: Global,
-    rank: RankNo,
     dirs: &BTreeSet<Ino>,
+    links: &Counts,
+    inodes: &[Ino],
     cells: &[CellView<'_>],
 ) -> Result<Option<u64>, AllocError>
-    ensures { IfOk result (λ o. o ≡ too_much rank (map cell_of cells.now) dirs.now.keys) }
+    ensures { IfOk result (λ o. o ≡ too_much (count_in links.now) inodes.now (map cell_of cells.now) dirs.now.keys) }
 {
     if let Some(n) = over_entries(alloc, dirs, cells)? {
         return Ok(Some(n));
     }
-    let inodes = kept_inodes(alloc, rank, dirs, cells)?;
-    if let Some(n) = over(MOST_INODES, inodes.len()) {
+    let kept = kept_among(alloc, links, inodes, cells)?;
+    if let Some(n) = over(MOST_INODES, kept.len()) {
         return Ok(Some(n));
     }
     let sessions = sessions(alloc, cells)?;
@@ -322,13 +336,15 @@ fn too_much(
 
 fn over_limit(
     alloc: Global,
-    rank: RankNo,
     dirs: &BTreeSet<Ino>,
+    links: &Counts,
+    inodes: &[Ino],
     cells: &[CellView<'_>],
 ) -> Result<Option<Damage>, AllocError>
-    ensures { IfOk result (λ o. o ≡ option_map damage.OverLimit (too_much rank (map cell_of cells.now) dirs.now.keys)) }
+    requires { (k : ℕ) → count_in links.now k ≡ link_times (map cell_of cells.now) dirs.now.keys k }
+    ensures { IfOk result (λ o. o ≡ option_map damage.OverLimit (too_much (link_times (map cell_of cells.now) dirs.now.keys) inodes.now (map cell_of cells.now) dirs.now.keys)) }
 {
-    match too_much(alloc, rank, dirs, cells)? {
+    match too_much(alloc, dirs, links, inodes, cells)? {
         Some(n) => Ok(Some(Damage::OverLimit(n))),
         None => Ok(None),
     }
@@ -355,10 +371,11 @@ pub fn found_damage(
     if let Some(damage) = no_primary(alloc, rank, dirs, cells)? {
         return Ok(Some(damage));
     }
-    if let Some(damage) = bad_links(alloc, rank, dirs, cells)? {
+    let links = link_counts(alloc, dirs, cells)?;
+    if let Some(damage) = bad_links(alloc, rank, dirs, &links, cells)? {
         return Ok(Some(damage));
     }
-    if let Some(damage) = bad_next(alloc, rank, layers, dirs, cells)? {
+    if let Some(damage) = bad_next(alloc, rank, layers, &inodes, cells)? {
         return Ok(Some(damage));
     }
     if let Some(damage) = bad_open(alloc, rank, layers, dirs, cells)? {
@@ -367,5 +384,5 @@ pub fn found_damage(
     if let Some(damage) = bad_session(alloc, layers, cells)? {
         return Ok(Some(damage));
     }
-    over_limit(alloc, rank, dirs, cells)
+    over_limit(alloc, dirs, &links, &inodes, cells)
 }
