@@ -25,7 +25,7 @@ use Rattle.mj_recovery.specs.Damage as row
 use Rattle.mj_recovery.specs.Damage.{first_some, least, inos, times, headless, twice, is_full_of, lone_remote, miscounted, over, over_entries, first_open, bad_opens, is_bad_open, is_bad_reply, bad_replies, cell_dirs, tree_damage}
 use Rattle.mj_judge.specs.Parts.{Cell, dentry_entry, head_entry, open_entry, session_entry}
 use Rattle.mj_judge.specs.Reached.{AreDirs}
-use Rattle.mj_judge.specs.Rows.{full_in, if_kind, if_other, kind_ino, link_to, link_from, lone_in, replies_badly, oldest_at, version_at, kept_of}
+use Rattle.mj_judge.specs.Rows.{full_in, if_kind, if_other, kind_ino, link_to, link_from, remote_to, if_lone, replies_badly, oldest_at, version_at, kept_of}
 use Rattle.mj_judge.specs.Judged.{held, fulls, has_kind, is_file, link_times, entry_times, opens, open_times, replies, reply_times, lone, wrong_counts, all_dirs, beyond, next_of, wrong_opens, wrong_replies, kept_inodes, too_much, found_damage}
 use Rattle.mj_judge.proofs.PartMaps.{get-heads, get-sessions, next_is, dentries_are, heads_are, sessions_are, done_are, opens_are}
 use Rattle.mj_judge.proofs.Alike.{filter_map_twice, filter_map_map, filter_map_alike, least_filter, times_among}
@@ -33,14 +33,18 @@ use Rattle.mj_judge.proofs.Distinct.{AreDistinct, distinct, kind_in, kind_times,
 
 -- ---- dentries of the same directories
 
+if_there : {X Y : Type 0} (f : X → Option Y) (b : Bool) (o : Option X) → option_and_then f (cond b o None) ≡ cond b (option_and_then f o) None
+if_there f true o = refl
+if_there f false o = refl
+
 module _ (D E : List ℕ) (h : (d : ℕ) → is_among D d ≡ is_among E d) where
   full_alike : (q : ℕ × List ℕ) (x : Dentry) → full_record D (q, x) ≡ full_record E (q, x)
   full_alike q (Full v r) = ap (λ b. cond b (Some r) None) (h q.0)
   full_alike q (Remote v i k) = λ j. cond (h q.0 j) None None
 
-  lone_alike : (has : ℕ → Kind → Bool) (rs : List InodeRecord) → ((i : ℕ) (k : Kind) → has i k ≡ is_full_of i k rs) → (q : ℕ × List ℕ) (x : Dentry) → lone_in D has (q, x) ≡ lone_remote E rs (q, x)
-  lone_alike has rs same q (Full v r) = λ j. cond (h q.0 j) None None
-  lone_alike has rs same q (Remote v i k) = λ j. cond (h q.0 j) (cond (same i k j) None (Some i)) None
+  lone_alike : (has : ℕ → Kind → Bool) (rs : List InodeRecord) → ((i : ℕ) (k : Kind) → has i k ≡ is_full_of i k rs) → (q : ℕ × List ℕ) (x : Dentry) → option_and_then (if_lone has) (remote_to D (q, x)) ≡ lone_remote E rs (q, x)
+  lone_alike has rs same q (Full v r) = if_there (if_lone has) (is_among D q.0) None ∙ (λ j. cond (h q.0 j) None None)
+  lone_alike has rs same q (Remote v i k) = if_there (if_lone has) (is_among D q.0) (Some (i, k)) ∙ (λ j. cond (h q.0 j) (cond (same i k j) None (Some i)) None)
 
 -- ---- counts
 
@@ -179,8 +183,11 @@ module _ (rank : ℕ) (m : Map key_cmp CellValue) (dirs : List ℕ) (is : AreDir
   row_heads = ap (λ (f : ℕ → Option ℕ). least (headless f (held rank dirs))) heads_is ∙ least_filter (λ d. is_none (get t.heads d)) (held rank dirs) (holding rank t) held_alike
 
   lone_is : lone rank cs dirs ≡ filter_map (lone_remote (reachable t) rs) es
-  lone_is = filter_map_twice dentry_entry (lone_in dirs (has_kind rank cs dirs)) cs ∙ ap (filter_map (lone_in dirs (has_kind rank cs dirs))) (sym (dentries_are m))
-      ∙ filter_map_alike (lone_in dirs (has_kind rank cs dirs)) (lone_remote (reachable t) rs) (λ e. lone_alike dirs (reachable t) is (has_kind rank cs dirs) rs has_is e.0 e.1) es
+  lone_is =
+      let has = has_kind rank cs dirs in
+      ap (filter_map (if_lone has)) (filter_map_twice dentry_entry (remote_to dirs) cs ∙ ap (filter_map (remote_to dirs)) (sym (dentries_are m)))
+      ∙ sym (filter_map_twice (remote_to dirs) (if_lone has) es)
+      ∙ filter_map_alike (λ e. option_and_then (if_lone has) (remote_to dirs e)) (lone_remote (reachable t) rs) (λ e. lone_alike dirs (reachable t) is has rs has_is e.0 e.1) es
 
   picked_is : picked (link_in dirs) es ≡ picked (link_in (reachable t)) es
   picked_is = λ j. picked (λ (q : ℕ × List ℕ) (x : Dentry). cond (is q.0 j) (Some (ino_of x)) None) es

@@ -13,7 +13,7 @@ use Rattle.mj_cells.specs.declared.cell.CellValue.{CellValue}
 use Rattle.mj_cells.specs.Cell.{key_cmp}
 use Rattle.mj_recovery.specs.Damage.{first_some, least, times, headless, twice, is_given, is_known, low_next, bad_opens, first_open, over, over_entries}
 use Rattle.mj_judge.specs.Parts.{Cell, number_at, head_dir, session_entry, done_entry, open_place}
-use Rattle.mj_judge.specs.Rows.{full_ino, kind_ino, miscounted_ino, link_ino, link_dir, dentry_dir, misnamed_ino, lone_ino, replies_badly, oldest_at, version_at, kept_of}
+use Rattle.mj_judge.specs.Rows.{full_ino, kind_ino, miscounted_ino, link_ino, link_dir, dentry_dir, misnamed_ino, remote_in, if_lone, replies_badly, oldest_at, version_at, kept_of}
 
 abbrev pub held : ℕ → List ℕ → List ℕ
 held rank dirs = stray_ino rank ∷ dirs
@@ -47,7 +47,7 @@ abbrev pub reply_times : List Cell → ℕ → ℕ
 reply_times cs client = times client (map (λ (e : (ℕ × ℕ) × ℕ). e.0.0) (replies cs))
 
 abbrev pub lone : ℕ → List Cell → List ℕ → List ℕ
-lone rank cs dirs = filter_map (lone_ino dirs (has_kind rank cs dirs)) cs
+lone rank cs dirs = filter_map (if_lone (has_kind rank cs dirs)) (filter_map (remote_in dirs) cs)
 
 abbrev pub wrong_counts : ℕ → List Cell → List ℕ → List ℕ
 wrong_counts rank cs dirs = filter_map (miscounted_ino (held rank dirs) (link_times cs dirs)) cs

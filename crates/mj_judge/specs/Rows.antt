@@ -1,7 +1,7 @@
 -- What the rows of damage look at, cell by cell, and how often numbers stand in lists.
 use Rattle.std.specs.Prelude.{ℕ, ◌+◌, Bool, true, ◌==◌, ◌||◌, nat_eq, nat_lt, List, filter, Option, Some, None, option_map, option_and_then, unwrap_or, if◌then◌else◌}
 use Rattle.std.specs.HashMap as hash
-use Rattle.mj_maps.specs.Map.{Map, get}
+use Rattle.mj_maps.specs.Map.{Map}
 use Rattle.mj_base.specs.Record.{same_kind}
 use Rattle.mj_base.specs.declared.record.Kind.{Kind}
 use Rattle.mj_base.specs.declared.record.InodeRecord.{InodeRecord}
@@ -60,6 +60,17 @@ link_ino dirs c = option_and_then (link_to dirs) (dentry_entry c)
 abbrev pub link_dir : List ℕ → Cell → Option ℕ
 link_dir dirs c = option_and_then (link_from dirs) (dentry_entry c)
 
+-- the inode and the kind that a remote dentry of these directories names
+abbrev pub remote_to : List ℕ → Entry → Option (ℕ × Kind)
+remote_to dirs e = if is_among dirs e.0.0 then by_dentry e.1 else None
+  where
+    by_dentry : Dentry → Option (ℕ × Kind)
+    by_dentry (Full version r) = None
+    by_dentry (Remote version i kind) = Some (i, kind)
+
+abbrev pub remote_in : List ℕ → Cell → Option (ℕ × Kind)
+remote_in dirs c = option_and_then (remote_to dirs) (dentry_entry c)
+
 -- the directory of a dentry that is there
 abbrev pub dentry_dir : Cell → Option ℕ
 dentry_dir c = option_map (λ (e : Entry). e.0.0) (dentry_entry c)
@@ -69,16 +80,9 @@ misnamed_ino rank c = option_and_then (misnamed rank) (dentry_entry c)
 
 -- ---- rows with look-ups in the place of searches
 
--- the inode of a remote dentry of these directories that has no full one
-abbrev pub lone_in : List ℕ → (ℕ → Kind → Bool) → Entry → Option ℕ
-lone_in dirs has e = if is_among dirs e.0.0 then by_dentry e.1 else None
-  where
-    by_dentry : Dentry → Option ℕ
-    by_dentry (Full version r) = None
-    by_dentry (Remote version i kind) = if has i kind then None else Some i
-
-abbrev pub lone_ino : List ℕ → (ℕ → Kind → Bool) → Cell → Option ℕ
-lone_ino dirs has c = option_and_then (lone_in dirs has) (dentry_entry c)
+-- the inode of a remote dentry that has no full one
+abbrev pub if_lone : (ℕ → Kind → Bool) → ℕ × Kind → Option ℕ
+if_lone has r = if has r.0 r.1 then None else Some r.0
 
 -- a kept reply without a session or below its oldest, or one of more than 64
 abbrev pub replies_badly : (ℕ → Option ℕ) → (ℕ → ℕ) → (ℕ × ℕ) × ℕ → Bool

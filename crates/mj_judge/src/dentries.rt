@@ -5,7 +5,7 @@ ghost use Rattle.std.specs.Option.{option_copied};
 ghost use Rattle.mj_base.specs.ObjectName.{stray_ino};
 ghost use Rattle.mj_cells.specs.Next.{cell_of};
 ghost use Rattle.mj_recovery.specs.Tree.{is_among};
-ghost use Rattle.mj_judge.specs.Rows.{full_in, full_ino, kind_ino, link_ino, link_dir, dentry_dir};
+ghost use Rattle.mj_judge.specs.Rows.{full_in, full_ino, kind_ino, link_ino, link_dir, remote_in, dentry_dir};
 
 use crate::parts::{dir_of, ino_in};
 use mj_base::{Ino, InodeRecord, Kind, RankNo};
@@ -147,6 +147,34 @@ pub fn link_dirs(
     for cell in cells {
         if let Some(dir) = link_dir(dirs, cell) {
             found.push(dir)?;
+        }
+    }
+    Ok(found)
+}
+
+fn remote_in(dirs: &BTreeSet<Ino>, cell: &CellView<'_>) -> Option<(Ino, Kind)>
+    ensures { result ≡ remote_in dirs.now.keys (cell_of cell.now) }
+{
+    match (cell.key, cell.value) {
+        (CellKey::Dentry(dir, _), CellValue::Remote(_, ino, kind)) if is_dir(dirs, *dir) => {
+            Some((*ino, *kind))
+        }
+        _ => None,
+    }
+}
+
+/// The inodes and kinds that the remote dentries of these directories name.
+pub fn remotes(
+    alloc: Global,
+    dirs: &BTreeSet<Ino>,
+    cells: &[CellView<'_>],
+) -> Result<Vec<(Ino, Kind)>, AllocError>
+    ensures { IfOk result (λ v. v.items ≡ filter_map (remote_in dirs.now.keys) (map cell_of cells.now)) }
+{
+    let mut found = Vec::new(alloc);
+    for cell in cells {
+        if let Some(remote) = remote_in(dirs, cell) {
+            found.push(remote)?;
         }
     }
     Ok(found)

@@ -10,11 +10,11 @@ ghost use Rattle.mj_judge.specs.Rows.{count_in, version_at, kept_of};
 ghost use Rattle.mj_judge.specs.Judged.{held, lone, wrong_counts, all_dirs, beyond, next_of, wrong_opens, wrong_replies, too_much, kept_inodes, found_damage, entry_times, link_times, open_times};
 
 use crate::counts::Counts;
-use crate::dentries::{dentry_dirs, full_inodes, kind_inodes, link_dirs, link_inodes};
+use crate::dentries::{dentry_dirs, full_inodes, kind_inodes, link_dirs, link_inodes, remotes};
 use crate::kinds::kinds_of;
 use crate::parts::{head_dirs, kept_replies, next_ino, opens, sessions};
 use crate::rows::{
-    bad_opens, bad_replies, headless, kept_of, lone_remotes, miscounted, over_dirs, reply_clients,
+    bad_opens, bad_replies, headless, kept_of, lone_among, miscounted, over_dirs, reply_clients,
     twice,
 };
 use crate::stray::push_misnamed;
@@ -74,8 +74,12 @@ fn lone(
 ) -> Result<Vec<Ino>, AllocError>
     ensures { IfOk result (λ v. v.items ≡ lone rank (map cell_of cells.now) dirs.now.keys) }
 {
+    let remotes = remotes(alloc, dirs, cells)?;
+    if remotes.is_empty() {
+        return Ok(Vec::new(alloc));
+    }
     let kinds = kinds_of(alloc, rank, dirs, cells)?;
-    lone_remotes(alloc, dirs, &kinds, cells)
+    lone_among(alloc, &kinds, &remotes)
 }
 
 fn no_primary(

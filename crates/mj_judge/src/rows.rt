@@ -7,14 +7,14 @@ ghost use Rattle.mj_cells.specs.Next.{cell_of};
 ghost use Rattle.mj_tables.specs.Layered.{early_cells};
 ghost use Rattle.mj_recovery.specs.Damage.{headless, bad_opens};
 ghost use Rattle.mj_judge.specs.Kinds.{is_kind};
-ghost use Rattle.mj_judge.specs.Rows.{count_in, is_counted, miscounted_ino, lone_ino, replies_badly, oldest_at, version_at, kept_of, over_dirs};
+ghost use Rattle.mj_judge.specs.Rows.{count_in, is_counted, miscounted_ino, if_lone, replies_badly, oldest_at, version_at, kept_of, over_dirs};
 
 use crate::counts::Counts;
-use crate::dentries::{full_in, is_dir};
+use crate::dentries::full_in;
 use crate::kinds::Kinds;
 use crate::parts::number_at;
-use mj_base::{ClientId, Ino, RankNo, Tid};
-use mj_cells::{CellKey, CellValue, CellView};
+use mj_base::{ClientId, Ino, Kind, RankNo, Tid};
+use mj_cells::{CellKey, CellView};
 use mj_recovery::{ROOT, stray_ino};
 use mj_tables::Layers;
 use std::alloc::{AllocError, Global};
@@ -68,34 +68,18 @@ pub fn twice(alloc: Global, counts: &Counts, inodes: &[Ino]) -> Result<Vec<Ino>,
     Ok(found)
 }
 
-fn lone_ino(dirs: &BTreeSet<Ino>, kinds: &Kinds, cell: &CellView<'_>) -> Option<Ino>
-    ensures { result ≡ lone_ino dirs.now.keys (is_kind kinds.now) (cell_of cell.now) }
-{
-    match (cell.key, cell.value) {
-        (CellKey::Dentry(dir, _), CellValue::Remote(_, ino, kind)) if is_dir(dirs, *dir) => {
-            if kinds.has(*ino, *kind) {
-                None
-            } else {
-                Some(*ino)
-            }
-        }
-        _ => None,
-    }
-}
-
-/// The inodes of the remote dentries of reachable directories that have no full one.
-pub fn lone_remotes(
+/// The inodes of those remote dentries that have no full one.
+pub fn lone_among(
     alloc: Global,
-    dirs: &BTreeSet<Ino>,
     kinds: &Kinds,
-    cells: &[CellView<'_>],
+    remotes: &[(Ino, Kind)],
 ) -> Result<Vec<Ino>, AllocError>
-    ensures { IfOk result (λ v. v.items ≡ filter_map (lone_ino dirs.now.keys (is_kind kinds.now)) (map cell_of cells.now)) }
+    ensures { IfOk result (λ v. v.items ≡ filter_map (if_lone (is_kind kinds.now)) remotes.now) }
 {
     let mut found = Vec::new(alloc);
-    for cell in cells {
-        if let Some(ino) = lone_ino(dirs, kinds, cell) {
-            found.push(ino)?;
+    for remote in remotes {
+        if !kinds.has(remote.0, remote.1) {
+            found.push(remote.0)?;
         }
     }
     Ok(found)
