@@ -1,5 +1,5 @@
 -- Ascending lists: what stands above an item, and the first of it.
-use Rattle.std.proofs.Common.{◌≡◌, ℕ, ◌+◌, ◌<◌, Bool, true, false, cond, List, [], ◌∷◌, ◌++◌, length, Option, Some, None, refl, sym, ap, subst, ◌∙◌, ◌⊎◌, inl, inr, arith}
+use Rattle.std.proofs.Common.{◌≡◌, Bool, true, false, cond, List, [], ◌∷◌, Some, None, refl, sym, ap, subst, ◌∙◌, ◌⊎◌, inl, inr}
 use Rattle.std.specs.List.{filter, AllByRecursion}
 use Rattle.std.proofs.lemmas.Bool.{false≢true}
 use Rattle.mj_maps.proofs.MapLaws.{some_same, none_some}
@@ -21,11 +21,11 @@ module _ {K : Type 0} (lt : K → K → Bool) (o : IsOrder lt) where
   abbrev pub above : K → List K → List K
   above a ks = filter (λ k. lt a k) ks
 
-  all_above : (a b : K) → lt a b ≡ true → (ks : List K) → AllByRecursion (λ x. lt b x ≡ true) ks → above a ks ≡ ks
+  pub all_above : (a b : K) → lt a b ≡ true → (ks : List K) → AllByRecursion (λ x. lt b x ≡ true) ks → above a ks ≡ ks
   all_above a b ab [] h = refl
   all_above a b ab (k ∷ ks) h = ap (λ c. cond c (k ∷ above a ks) (above a ks)) (o.transitive a b k ab h.0) ∙ ap (λ xs. k ∷ xs) (all_above a b ab ks h.1)
 
-  own_above : (k : K) (ks : List K) → AllByRecursion (λ x. lt k x ≡ true) ks → above k ks ≡ ks
+  pub own_above : (k : K) (ks : List K) → AllByRecursion (λ x. lt k x ≡ true) ks → above k ks ≡ ks
   own_above k [] h = refl
   own_above k (x ∷ ks) h = ap (λ c. cond c (x ∷ above k ks) (above k ks)) h.0 ∙ ap (λ xs. x ∷ xs) (own_above k ks h.1)
 

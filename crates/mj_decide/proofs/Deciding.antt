@@ -4,7 +4,6 @@ use Rattle.std.specs.Prelude.{nat_le, nat_lt, if◌then◌else◌, unwrap_or}
 use Rattle.mj_maps.specs.Map.{get, empty, len}
 use Rattle.mj_maps.proofs.MapLaws.{none_some, some_same}
 use Rattle.mj_tree.specs.State.{PlainState, Session}
-use Rattle.mj_tree.specs.declared.change.Decision.{Decision}
 use Rattle.mj_tree.specs.declared.change.Decision.TheVariants.{SessionBegins}
 use Rattle.mj_tree.specs.declared.request.ClientRequest.{ClientRequest}
 use Rattle.mj_tree.specs.Answer.{refused, most_sessions, opening, by_session, in_session, decision, reply_of, answer}

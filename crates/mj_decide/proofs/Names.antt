@@ -1,7 +1,6 @@
 -- The names of a directory, as the cells of their keys.
-use Rattle.std.proofs.Common.{◌≡◌, ℕ, zero, suc, Bool, true, false, cond, ◌&&◌, T, List, [], ◌∷◌, ◌++◌, ◌+◌, ◌<◌, length, map, Option, Some, None, refl, sym, ap, subst, ◌∙◌, ◌⊎◌, inl, inr, append_assoc, arith}
-use Rattle.std.specs.Prelude.{◌==◌, if◌then◌else◌, IsTrue, nat_le}
-use Rattle.std.specs.declared.cmp.Ordering.{Ordering}
+use Rattle.std.proofs.Common.{◌≡◌, ℕ, zero, suc, Bool, true, false, cond, T, List, [], ◌∷◌, ◌++◌, ◌+◌, ◌<◌, length, map, Option, Some, None, refl, sym, ap, ◌∙◌, ◌⊎◌, inl, inr, append_assoc, arith}
+use Rattle.std.specs.Prelude.{◌==◌, if◌then◌else◌, IsTrue}
 use Rattle.std.specs.declared.cmp.Ordering.TheVariants.{Less, Equal, Greater}
 use Rattle.std.specs.List.{filter, list_all, AllByRecursion}
 use Rattle.std.specs.Option.{option_and_then}
@@ -13,7 +12,7 @@ use Rattle.mj_base.specs.Name.{is_name, is_name_byte}
 use Rattle.mj_maps.specs.Map.{Map, entries, entries_sorted, get, left_true, right_true}
 use Rattle.mj_maps.specs.Orders.{place_cmp, bytes_cmp}
 use Rattle.mj_maps.proofs.MapLaws.{exact_nat, exact_bytes, exact_place, none_some}
-use Rattle.mj_tree.specs.State.{PlainState, is_dir}
+use Rattle.mj_tree.specs.State.{is_dir}
 use Rattle.mj_tree.specs.Row.{names_in}
 use Rattle.mj_cells.specs.declared.cell.CellKey.{CellKey}
 use Rattle.mj_cells.specs.declared.cell.CellKey.TheVariants as key
@@ -31,7 +30,7 @@ use Rattle.mj_delta.proofs.Facts.{cases_option, is_some_at}
 use Rattle.mj_delta.proofs.Lists.{Lies, in_map, to_map, in_filter, entry_at, at_entry}
 use Rattle.mj_decide.specs.HasTree.{HasTree}
 use Rattle.mj_decide.specs.Reads.{name_in, name_below, next_name}
-use Rattle.mj_decide.proofs.Ascending.{Ascends, IsOrder, above, above_none, above_least, above_next, above_end, from_item, all_items}
+use Rattle.mj_decide.proofs.Ascending.{Ascends, IsOrder, above_none, above_least, above_next, above_end, from_item, all_items}
 use Rattle.mj_decide.proofs.Nearest.{true_is, order_of, IsNext, next_is, next_none}
 use Rattle.mj_decide.proofs.Placed.{link_is}
 use Rattle.mj_decide.proofs.Replies.{agreeing}

@@ -1,16 +1,14 @@
 -- A client's open files, as the cells of their keys.
-use Rattle.std.proofs.Common.{◌≡◌, ℕ, ◌<◌, ◌≤◌, Bool, true, false, cond, List, Option, Some, None, refl, sym, ap, subst, ◌∙◌, inl, inr, arith}
-use Rattle.std.specs.Prelude.{nat_lt, ◌==◌, IsSome, is_some}
+use Rattle.std.proofs.Common.{◌≡◌, ℕ, ◌<◌, Bool, true, false, Option, Some, None, refl, sym, ap, ◌∙◌, inl, inr, arith}
+use Rattle.std.specs.Prelude.{nat_lt, ◌==◌}
 use Rattle.std.specs.Option.{option_and_then, option_map_or}
 use Rattle.std.specs.declared.cmp.Ordering.TheVariants.{Equal}
 use Rattle.std.specs.Ordering.{is_lt, nat_cmp, ordering_then}
 use Rattle.std.specs.Cmp.{tied_itself}
 use Rattle.std.proofs.lemmas.Bool.{false≢true, cases_Bool, eqb-true, eq-eqb, lt-ltb}
-use Rattle.mj_base.specs.ObjectName.{first_ino}
-use Rattle.mj_maps.specs.Map.{Map, get, count}
+use Rattle.mj_maps.specs.Map.{Map, get}
 use Rattle.mj_maps.proofs.MapLaws.{exact_nat, exact_pair, none_some, count_none, count_some}
-use Rattle.mj_tree.specs.State.{PlainState, opens_of, is_file}
-use Rattle.mj_tree.specs.Row.{is_open}
+use Rattle.mj_tree.specs.State.{opens_of}
 use Rattle.mj_cells.specs.declared.cell.CellKey.{CellKey}
 use Rattle.mj_cells.specs.declared.cell.CellKey.TheVariants as key
 use Rattle.mj_cells.specs.declared.cell.CellValue.{CellValue}
@@ -21,7 +19,7 @@ use Rattle.mj_tables.specs.Layered.{is_there, next_there}
 use Rattle.mj_judge.proofs.PartMaps.{get-opens}
 use Rattle.mj_cache.specs.Cached.{CacheValue, early_cells, early_table, early_tree}
 use Rattle.mj_base.specs.declared.record.Kind.TheVariants.{File}
-use Rattle.mj_delta.proofs.Facts.{Ids, ids, cases_option, is_some_at, kind_record, record_primary}
+use Rattle.mj_delta.proofs.Facts.{ids, cases_option, is_some_at, kind_record, record_primary}
 use Rattle.mj_decide.specs.HasTree.{HasTree}
 use Rattle.mj_decide.specs.Reads.{is_open_by}
 use Rattle.mj_decide.proofs.Nearest.{less_number, IsNext, next_is, next_none}

@@ -1,14 +1,15 @@
 -- A client's kept replies, as the cells of their keys.
-use Rattle.std.proofs.Common.{◌≡◌, ℕ, ◌+◌, ◌≤◌, Bool, true, false, cond, T, List, [], ◌∷◌, ◌++◌, length, map, Option, Some, None, refl, sym, ap, subst, ◌∙◌, ◌⊎◌, inl, inr, append_assoc, arith}
+use Rattle.std.proofs.Common.{◌≡◌, ℕ, ◌+◌, ◌≤◌, Bool, true, false, not, cond, T, List, [], ◌∷◌, ◌++◌, length, map, Option, Some, None, refl, sym, ap, subst, ◌∙◌, ◌⊎◌, inl, inr, append_assoc, arith}
 use Rattle.std.specs.Prelude.{nat_lt, nat_le, ◌==◌, if◌then◌else◌, is_some, unwrap_or}
 use Rattle.std.specs.declared.cmp.Ordering.{Ordering}
 use Rattle.std.specs.declared.cmp.Ordering.TheVariants.{Less, Equal, Greater}
 use Rattle.std.specs.List.{filter, AllByRecursion}
 use Rattle.std.specs.Option.{option_and_then}
-use Rattle.std.specs.Ordering.{is_lt, nat_cmp, ordering_then}
+use Rattle.std.specs.Ordering.{is_ge, is_lt, nat_cmp, ordering_then}
 use Rattle.std.specs.Cmp.{tied_itself}
 use Rattle.std.specs.FinMap.Entries.{below_all, is_sorted}
-use Rattle.std.proofs.lemmas.Bool.{false≢true, cases_Bool, eqb-true, eq-eqb, ltb-false}
+use Rattle.std.proofs.lemmas.Bool.{false≢true, cases_Bool, eqb-true, eq-eqb, ltb-true, ltb-false}
+use Rattle.std.proofs.lemmas.List.Elements.{filter-append}
 use Rattle.mj_maps.specs.Map.{Map, entries, entries_sorted, get, remove, count, passing, empty, left_true, right_true}
 use Rattle.mj_maps.proofs.MapLaws.{exact_nat, get_empty, entries-empty, len-entries, none_some, some_same, count_none, count-remove, remove_same}
 use Rattle.mj_tree.specs.State.{PlainState, Session}
@@ -22,14 +23,14 @@ use Rattle.mj_cells.specs.Next.{first_of}
 use Rattle.mj_cells.specs.Table.{number_of}
 use Rattle.mj_tables.specs.Layered.{is_there, next_there}
 use Rattle.mj_judge.proofs.PartMaps.{get-done}
-use Rattle.mj_cache.specs.Cached.{CacheValue, early_cells, early_table, early_tree}
+use Rattle.mj_cache.specs.Cached.{CacheValue, early_cells, early_tree}
 use Rattle.mj_delta.specs.Events.{tids}
 use Rattle.mj_delta.specs.TreeOf.{oldest_of}
 use Rattle.mj_delta.proofs.Facts.{cases_option}
 use Rattle.mj_delta.proofs.Lists.{Lies, in_map, to_map, entry_at, at_entry}
 use Rattle.mj_decide.specs.HasTree.{HasTree}
 use Rattle.mj_decide.specs.Reads.{kept_of, next_tid, tid_in}
-use Rattle.mj_decide.proofs.Ascending.{Ascends, IsOrder, above, above_none, above_least, above_next, above_end, from_item, all_items}
+use Rattle.mj_decide.proofs.Ascending.{Ascends, IsOrder, above_none, above_least, above_next, above_end, all_above, own_above, from_item, all_items}
 use Rattle.mj_decide.proofs.Nearest.{true_is, order_of, less_number, IsNext, next_is, next_none}
 
 -- ---- orders
@@ -50,6 +51,13 @@ pub agreeing : (o p q : Ordering) → is_lt (ordering_then o p) ≡ true → is_
 agreeing Less p q l n = absurd (false≢true (sym n))
 agreeing Equal p q l n = refl
 agreeing Greater p q l n = absurd (false≢true l)
+
+-- what a test for at least says of the numbers
+pub at_least : (a b : ℕ) (r : Bool) → r ≡ is_ge (nat_cmp a b) → nat_lt a b ≡ not r
+at_least a b r = elim (nat_lt a b) as (λ x. r ≡ is_ge (cond x Less (cond (a == b) Equal Greater)) → x ≡ not r) [
+  | true ↦ λ e. sym (ap not e)
+  | false ↦ elim (a == b) as (λ y. r ≡ is_ge (cond y Equal Greater) → false ≡ not r) [ true ↦ λ e. sym (ap not e) | false ↦ λ e. sym (ap not e) ]
+]
 
 done_less : (client a b : ℕ) → is_lt (key_cmp (key.Done client a) (key.Done client b)) ≡ nat_lt a b
 done_less client a b = ap (λ o. is_lt (ordering_then o (ordering_then (nat_cmp a b) Equal))) (tied_itself exact_nat.total client) ∙ then_less (nat_cmp a b) ∙ less_number a b
@@ -176,6 +184,25 @@ none_is (Some x) e = absurd (false≢true (sym e))
 at_or_above : (a k : ℕ) → a ≤ k → (k ≡ a) ⊎ (nat_lt a k ≡ true)
 at_or_above a k h = elim (cases_Bool (nat_lt a k)) [ inl e ↦ inr e | inr e ↦ let le = ltb-false a k e in inl (omega (arith, h, le)) ]
 
+one_below : (b : Bool) (x bound : ℕ) → nat_lt x bound ≡ true → filter (λ tid. nat_lt tid bound) (cond b (x ∷ []) []) ≡ cond b (x ∷ []) []
+one_below true x bound h = ap (λ b. cond b (x ∷ []) []) h
+one_below false x bound h = refl
+
+one_not_below : (b : Bool) (x bound : ℕ) → nat_lt x bound ≡ false → filter (λ tid. nat_lt tid bound) (cond b (x ∷ []) []) ≡ []
+one_not_below true x bound h = ap (λ b. cond b (x ∷ []) []) h
+one_not_below false x bound h = refl
+
+not_below : (y k bound : ℕ) → nat_lt y bound ≡ false → nat_lt y k ≡ true → nat_lt k bound ≡ false
+not_below y k bound h up = grind arith
+
+-- what is above a number that isn't below the bound isn't either
+none_below : (bound y : ℕ) (ks : List ℕ) → nat_lt y bound ≡ false → filter (λ tid. nat_lt tid bound) (filter (nat_lt y) ks) ≡ []
+none_below bound y [] h = refl
+none_below bound y (k ∷ ks) h = elim (nat_lt y k) as (λ b. nat_lt y k ≡ b → filter (λ tid. nat_lt tid bound) (cond b (k ∷ filter (nat_lt y) ks) (filter (nat_lt y) ks)) ≡ []) [
+  | true ↦ λ up. ap (λ b. cond b (k ∷ filter (λ tid. nat_lt tid bound) (filter (nat_lt y) ks)) (filter (λ tid. nat_lt tid bound) (filter (nat_lt y) ks))) (not_below y k bound h up) ∙ none_below bound y ks h
+  | false ↦ λ e. none_below bound y ks h
+] refl
+
 module _ (c : CacheValue) (is : HasTree c) (client oldest : ℕ) (own : oldest_of (get (early_tree c).sessions client) ≡ Some oldest) where
   abbrev all : List ℕ
   all = tids (kept_of (early_tree c) client)
@@ -192,17 +219,39 @@ module _ (c : CacheValue) (is : HasTree c) (client oldest : ℕ) (own : oldest_o
   ]
 
   -- where the reply to the oldest number is kept, it is the first
-  pub oldest_first : (i : ℕ) → kept_reply (early_tree c) client oldest ≡ Some i → oldest ∷ filter (nat_lt oldest) all ≡ all
+  oldest_first : (i : ℕ) → kept_reply (early_tree c) client oldest ≡ Some i → oldest ∷ filter (nat_lt oldest) all ≡ all
   oldest_first i e = sym (from_item nat_lt number_order oldest all (tids_ascend (kept_of (early_tree c) client)) from_oldest
       (tid_lies (kept_of (early_tree c) client) oldest i (sym (kept_in oldest (get (early_tree c).sessions client)) ∙ e)))
 
-  pub no_oldest : kept_reply (early_tree c) client oldest ≡ None → filter (nat_lt oldest) all ≡ all
+  no_oldest : kept_reply (early_tree c) client oldest ≡ None → filter (nat_lt oldest) all ≡ all
   no_oldest none = all_items nat_lt number_order oldest all (λ k l. elim (from_oldest k l) [
     | inl same ↦
         let r = lies_tid (kept_of (early_tree c) client) k l in
         absurd (none_some r.0 (sym none ∙ kept_in oldest (get (early_tree c).sessions client) ∙ ap (get (kept_of (early_tree c) client)) (sym same) ∙ r.1))
     | inr up ↦ up
   ])
+
+  -- the oldest number, where the reply to it is kept, and those above
+  pub from_own : cond (is_some (kept_reply (early_tree c) client oldest)) (oldest ∷ []) [] ++ filter (nat_lt oldest) all ≡ all
+  from_own = elim (cases_option (kept_reply (early_tree c) client oldest)) [
+    | inl none ↦ ap (λ (o : Option ℕ). cond (is_some o) (oldest ∷ []) [] ++ filter (nat_lt oldest) all) none ∙ no_oldest none
+    | inr w ↦ ap (λ (o : Option ℕ). cond (is_some o) (oldest ∷ []) [] ++ filter (nat_lt oldest) all) w.1 ∙ oldest_first w.0 w.1
+  ]
+
+  -- those of them that are below a bound
+  pub own_below : (bound : ℕ) → nat_lt oldest bound ≡ true
+      → cond (is_some (kept_reply (early_tree c) client oldest)) (oldest ∷ []) [] ++ filter (λ tid. nat_lt tid bound) (filter (nat_lt oldest) all) ≡ filter (λ tid. nat_lt tid bound) all
+  own_below bound h =
+      ap (λ xs. xs ++ filter (λ tid. nat_lt tid bound) (filter (nat_lt oldest) all)) (sym (one_below (is_some (kept_reply (early_tree c) client oldest)) oldest bound h))
+      ∙ sym (filter-append (λ tid. nat_lt tid bound) (cond (is_some (kept_reply (early_tree c) client oldest)) (oldest ∷ []) []) (filter (nat_lt oldest) all))
+      ∙ ap (filter (λ tid. nat_lt tid bound)) from_own
+
+  -- none is below a bound that the oldest number isn't below
+  pub no_own_below : (bound : ℕ) → nat_lt oldest bound ≡ false → [] ≡ filter (λ tid. nat_lt tid bound) all
+  no_own_below bound h = sym (
+      sym (ap (filter (λ tid. nat_lt tid bound)) from_own)
+      ∙ filter-append (λ tid. nat_lt tid bound) (cond (is_some (kept_reply (early_tree c) client oldest)) (oldest ∷ []) []) (filter (nat_lt oldest) all)
+      ∙ (λ i. one_not_below (is_some (kept_reply (early_tree c) client oldest)) oldest bound h i ++ none_below bound oldest all h i))
 
 -- where a client has no session nothing is kept
 pub nothing_kept : (s : PlainState) (client : ℕ) → oldest_of (get s.sessions client) ≡ None → [] ≡ tids (kept_of s client)
@@ -224,6 +273,21 @@ tids_push s client after y found f so_far =
 
 pub tids_end : (s : PlainState) (client after : ℕ) → next_tid s client after ≡ None → filter (nat_lt after) (tids (kept_of s client)) ≡ []
 tids_end s client after f = above_end nat_lt number_order after (tids (kept_of s client)) f
+
+-- those of the rest that are below a bound: one more, where the next is
+pub next_below : (s : PlainState) (client after y bound : ℕ) → next_tid s client after ≡ Some y → nat_lt y bound ≡ true
+    → filter (λ tid. nat_lt tid bound) (filter (nat_lt after) (tids (kept_of s client))) ≡ y ∷ filter (λ tid. nat_lt tid bound) (filter (nat_lt y) (tids (kept_of s client)))
+next_below s client after y bound f h =
+    ap (filter (λ tid. nat_lt tid bound)) (above_next nat_lt number_order after (tids (kept_of s client)) y (tids_ascend (kept_of s client)) f)
+    ∙ ap (λ b. cond b (y ∷ filter (λ tid. nat_lt tid bound) (filter (nat_lt y) (tids (kept_of s client)))) (filter (λ tid. nat_lt tid bound) (filter (nat_lt y) (tids (kept_of s client))))) h
+
+-- and none, where the next isn't
+pub next_not_below : (s : PlainState) (client after y bound : ℕ) → next_tid s client after ≡ Some y → nat_lt y bound ≡ false
+    → filter (λ tid. nat_lt tid bound) (filter (nat_lt after) (tids (kept_of s client))) ≡ []
+next_not_below s client after y bound f h =
+    ap (filter (λ tid. nat_lt tid bound)) (above_next nat_lt number_order after (tids (kept_of s client)) y (tids_ascend (kept_of s client)) f)
+    ∙ ap (λ b. cond b (y ∷ filter (λ tid. nat_lt tid bound) (filter (nat_lt y) (tids (kept_of s client)))) (filter (λ tid. nat_lt tid bound) (filter (nat_lt y) (tids (kept_of s client))))) h
+    ∙ none_below bound y (tids (kept_of s client)) h
 
 pub tids_fewer : (s : PlainState) (client after y : ℕ) → next_tid s client after ≡ Some y
     → length (filter (nat_lt after) (tids (kept_of s client))) ≡ length (filter (nat_lt y) (tids (kept_of s client))) + 1
@@ -256,12 +320,40 @@ count_own m o = elim (cases_option (get m o)) [
       sym all ∙ (λ i. gone i + here i) ∙ sym (ap (λ (x : Option ℕ). cond (is_some x) 1 0) w.1)
 ]
 
+at_most_one : (b : Bool) → cond b 1 0 ≤ 1
+at_most_one true = omega arith
+at_most_one false = omega arith
+
 -- those from a number on are the one of it, where it is kept, and those above
 pub counted_from : (s : PlainState) (client oldest : ℕ)
     → cond (is_some (kept_reply s client oldest)) 1 0 + length (filter (nat_lt oldest) (tids (kept_of s client))) ≡ count (λ (e : ℕ × ℕ). nat_le oldest e.0) (kept_of s client)
 counted_from s client oldest =
     ap (λ (o : Option ℕ). cond (is_some o) 1 0 + length (filter (nat_lt oldest) (tids (kept_of s client)))) (kept_in oldest (get s.sessions client))
     ∙ sym (both_counts oldest (entries (kept_of s client)) ∙ ap (λ n. n + length (filter (nat_lt oldest) (tids (kept_of s client)))) (count_own (kept_of s client) oldest))
+
+-- numbers above one and none above another are no more than lie between
+few_between : (a last : ℕ) (ks : List ℕ) → Ascends nat_lt ks → a ≤ last → filter (nat_lt last) ks ≡ [] → length (filter (nat_lt a) ks) + a ≤ last
+few_between a last [] h le none = omega arith
+few_between a last (k ∷ ks) h le none = elim (nat_lt last k) as (λ b. nat_lt last k ≡ b → cond b (k ∷ filter (nat_lt last) ks) (filter (nat_lt last) ks) ≡ [] → length (cond (nat_lt a k) (k ∷ filter (nat_lt a) ks) (filter (nat_lt a) ks)) + a ≤ last) [
+  | true ↦ λ over none. absurd cc
+  | false ↦ λ under none. elim (nat_lt a k) as (λ b. nat_lt a k ≡ b → length (cond b (k ∷ filter (nat_lt a) ks) (filter (nat_lt a) ks)) + a ≤ last) [
+    | true ↦ λ up.
+        let within = ltb-false last k under in
+        let beyond = ltb-true a k up in
+        let rest = few_between k last ks h.1 within none in
+        let same = ap length (all_above nat_lt number_order a k up ks h.0 ∙ sym (own_above nat_lt number_order k ks h.0)) in
+        omega (arith, rest, same, beyond)
+    | false ↦ λ e. few_between a last ks h.1 le none
+  ] refl
+] refl none
+
+-- kept replies from a number on, none above another
+pub few_from : (s : PlainState) (client oldest last : ℕ) → oldest ≤ last → next_tid s client last ≡ None → count (λ (e : ℕ × ℕ). nat_le oldest e.0) (kept_of s client) + oldest ≤ last + 1
+few_from s client oldest last le f =
+    let all = counted_from s client oldest in
+    let above = few_between oldest last (tids (kept_of s client)) (tids_ascend (kept_of s client)) le (tids_end s client last f) in
+    let one = at_most_one (is_some (kept_reply s client oldest)) in
+    omega (arith, all, above, one)
 
 passing_most : (p : ℕ × ℕ → Bool) (es : List (ℕ × ℕ)) → passing p es ≤ length es
 passing_most p [] = omega arith

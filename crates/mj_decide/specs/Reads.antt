@@ -10,7 +10,7 @@ use Rattle.mj_tree.specs.Row.{names_in}
 use Rattle.mj_cells.specs.declared.cell.CellKey.{CellKey}
 use Rattle.mj_cells.specs.declared.cell.CellKey.TheVariants as key
 use Rattle.mj_cells.specs.Next.{first_of}
-use Rattle.mj_cells.specs.Table.{Dentry, Table}
+use Rattle.mj_cells.specs.Table.{Dentry}
 use Rattle.mj_cells.specs.Table.Dentry.{Full, Remote}
 use Rattle.mj_cache.specs.Cached.{CacheValue, early_table}
 use Rattle.mj_index.specs.Places.{full_place}

@@ -11,7 +11,7 @@ ghost use Rattle.mj_delta.specs.Events.{own_session};
 ghost use Rattle.mj_decide.specs.HasTree.{HasTree};
 
 use crate::looks::{lookup, readdir, readlink};
-use crate::ranges::{has_opens, kept_from};
+use crate::ranges::{has_opens, keeps_from};
 use crate::reads::{kept_reply, session_oldest};
 use crate::rows::{link, make, open_file, release, rename, rmdir, set_attr, unlink};
 use crate::tree::has_tree;
@@ -25,7 +25,7 @@ use std::alloc::{AllocError, Global};
 
 const MOST_SESSIONS: u64 = 4_096;
 
-const MOST_KEPT: usize = 64;
+const MOST_KEPT: u64 = 64;
 
 fn is_session_open(op: &Op) -> bool
     ensures { result ≡ is_session_open op.now }
@@ -38,7 +38,7 @@ fn keeps_most(cache: &Cache, r: &ClientRequest) -> bool
     requires tree { HasTree cache.now }
     ensures { result ≡ nat_le most_kept (still_kept r.entry.now (own_session (early_tree cache.now) r.entry.now)) }
 {
-    kept_from(cache, r.client, r.oldest) >= MOST_KEPT
+    keeps_from(cache, r.client, r.oldest, MOST_KEPT)
 }
 
 // What a changing operation does, if nothing forbids it.

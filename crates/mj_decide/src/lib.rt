@@ -10,7 +10,7 @@ mod tree;
 mod walking;
 
 pub use decision::decide;
-pub use ranges::kept_tids;
+pub use ranges::{kept_tids, kept_tids_below};
 pub use reads::{
     dentry_at, full_place, head_of, is_dir, is_open, link_count, next_ino, record, session_oldest,
 };

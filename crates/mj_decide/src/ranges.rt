@@ -1,6 +1,6 @@
 //! What is read of a cache by going over keys.
 
-ghost use Rattle.std.specs.Prelude.{◌≡◌, ◌∷◌, ◌++◌, [], ℕ, Some, true, cond, filter, is_some, nat_lt, nat_le, option_map, IfOk, IfSome, OnOk};
+ghost use Rattle.std.specs.Prelude.{◌≡◌, ◌<◌, ◌∷◌, ◌++◌, [], ℕ, Some, true, cond, filter, is_some, nat_lt, nat_le, option_map, IfOk, IfSome, IsTrue, OnOk};
 ghost use Rattle.std.specs.Option.{option_copied};
 ghost use Rattle.mj_maps.specs.Map.{get, count};
 ghost use Rattle.mj_tree.specs.State.{is_dir, opens_of};
@@ -44,20 +44,14 @@ fn next_tid(cache: &Cache, client: ClientId, after: Tid) -> Option<Tid>
     }
 }
 
-// The oldest number of a session, where its reply is kept.
-fn oldest_tids(
-    alloc: Global,
-    cache: &Cache,
-    client: ClientId,
-    oldest: Tid,
-) -> Result<Vec<Tid>, AllocError>
+// The number, where the reply to it is kept.
+fn tids_at(alloc: Global, cache: &Cache, client: ClientId, tid: Tid) -> Result<Vec<Tid>, AllocError>
     requires tree { HasTree cache.now }
-    requires oldest { oldest_of (get (early_tree cache.now).sessions client) ≡ Some oldest }
-    ensures { IfOk result (λ found. found.items ++ filter (nat_lt oldest) (tids (kept_of (early_tree cache.now) client)) ≡ tids (kept_of (early_tree cache.now) client)) }
+    ensures { IfOk result (λ found. found.items ≡ cond (is_some (kept_reply (early_tree cache.now) client tid)) (tid ∷ []) []) }
 {
     let mut found = Vec::new(alloc);
-    if kept_reply(cache, client, oldest).is_some() {
-        found.push(oldest)?;
+    if kept_reply(cache, client, tid).is_some() {
+        found.push(tid)?;
         Ok(found)
     } else {
         Ok(found)
@@ -75,9 +69,36 @@ fn session_tids(
     requires oldest { oldest_of (get (early_tree cache.now).sessions client) ≡ Some oldest }
     ensures { IfOk result (λ found. found.items ≡ tids (kept_of (early_tree cache.now) client)) }
 {
-    let mut found = oldest_tids(alloc, cache, client, oldest)?;
+    let mut found = tids_at(alloc, cache, client, oldest)?;
     let mut after = oldest;
     while let Some(tid) = next_tid(cache, client, after) {
+        found.push(tid)?;
+        after = tid;
+    }
+    Ok(found)
+}
+
+// Those of them that are below a bound. Numbers ascend, so the first that isn't below it ends the walk.
+fn session_tids_below(
+    alloc: Global,
+    cache: &Cache,
+    client: ClientId,
+    oldest: Tid,
+    bound: Tid,
+) -> Result<Vec<Tid>, AllocError>
+    requires tree { HasTree cache.now }
+    requires oldest { oldest_of (get (early_tree cache.now).sessions client) ≡ Some oldest }
+    ensures { IfOk result (λ found. found.items ≡ filter (λ tid. nat_lt tid bound) (tids (kept_of (early_tree cache.now) client))) }
+{
+    if oldest >= bound {
+        return Ok(Vec::new(alloc));
+    }
+    let mut found = tids_at(alloc, cache, client, oldest)?;
+    let mut after = oldest;
+    while let Some(tid) = next_tid(cache, client, after) {
+        if tid >= bound {
+            return Ok(found);
+        }
         found.push(tid)?;
         after = tid;
     }
@@ -95,8 +116,25 @@ pub fn kept_tids(alloc: Global, cache: &Cache, client: ClientId) -> Result<Vec<T
     }
 }
 
+/// The numbers of a client's kept replies that are below a bound, ascending. It takes a step for each of them and one
+/// more, and none where the bound is the oldest number of the session.
+pub fn kept_tids_below(
+    alloc: Global,
+    cache: &Cache,
+    client: ClientId,
+    bound: Tid,
+) -> Result<Vec<Tid>, AllocError>
+    ensures { IfOk result (λ found. found.items ≡ filter (λ tid. nat_lt tid bound) (tids (kept_of (early_tree cache.now) client))) }
+{
+    has_tree(cache);
+    match session_oldest(cache, client) {
+        Some(oldest) => session_tids_below(alloc, cache, client, oldest, bound),
+        None => Ok(Vec::new(alloc)),
+    }
+}
+
 // 1 where the reply to this number is kept, and else 0.
-fn kept_at(cache: &Cache, client: ClientId, tid: Tid) -> usize
+fn kept_at(cache: &Cache, client: ClientId, tid: Tid) -> u64
     requires tree { HasTree cache.now }
     ensures { result ≡ cond (is_some (kept_reply (early_tree cache.now) client tid)) 1 0 }
 {
@@ -107,8 +145,8 @@ fn kept_at(cache: &Cache, client: ClientId, tid: Tid) -> usize
     }
 }
 
-/// How many replies from a number on are kept for a client.
-pub fn kept_from(cache: &Cache, client: ClientId, oldest: Tid) -> usize
+// How many replies from a number on are kept for a client.
+fn kept_from(cache: &Cache, client: ClientId, oldest: Tid) -> u64
     requires tree { HasTree cache.now }
     ensures { result ≡ count (λ (e : ℕ × ℕ). nat_le oldest e.0) (kept_of (early_tree cache.now) client) }
 {
@@ -119,6 +157,24 @@ pub fn kept_from(cache: &Cache, client: ClientId, oldest: Tid) -> usize
         after = tid;
     }
     kept
+}
+
+// Whether a client's kept replies from a number on lie so close to it that they are fewer than `most`, since none is
+// above the `most` - 1 numbers from it on. One step tells.
+fn lie_close(cache: &Cache, client: ClientId, oldest: Tid, most: u64) -> bool
+    requires tree { HasTree cache.now }
+    ensures { IsTrue result → count (λ (e : ℕ × ℕ). nat_le oldest e.0) (kept_of (early_tree cache.now) client) < most }
+{
+    most > 1 && next_tid(cache, client, Tid(oldest.0.saturating_add(most - 2))).is_none()
+}
+
+/// Whether a client has `most` or more kept replies from a number on. They are counted only where one of them is so far
+/// from that number that there may be so many, so it takes one step for a client that acknowledges as it goes.
+pub fn keeps_from(cache: &Cache, client: ClientId, oldest: Tid, most: u64) -> bool
+    requires tree { HasTree cache.now }
+    ensures { result ≡ nat_le most (count (λ (e : ℕ × ℕ). nat_le oldest e.0) (kept_of (early_tree cache.now) client)) }
+{
+    !lie_close(cache, client, oldest, most) && kept_from(cache, client, oldest) >= most
 }
 
 fn is_open_by(client: ClientId, key: &CellKey) -> bool

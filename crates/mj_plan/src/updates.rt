@@ -1,6 +1,6 @@
 //! The event of an accepted request, but for what it says of its change.
 
-ghost use Rattle.std.specs.Prelude.{◌≡◌, nat_lt, filter, max, IfOk, Some, None, if◌then◌else◌};
+ghost use Rattle.std.specs.Prelude.{◌≡◌, max, IfOk, Some, None, if◌then◌else◌};
 ghost use Rattle.mj_tree.specs.State.{Session};
 ghost use Rattle.mj_cache.specs.Cached.{early_tree};
 ghost use Rattle.mj_event.specs.declared.Event.TheVariants as event;
@@ -10,7 +10,7 @@ ghost use Rattle.mj_decide.specs.HasTree.{HasTree};
 
 use mj_base::{Ino, Items, Tid};
 use mj_cache::Cache;
-use mj_decide::{kept_tids, session_oldest};
+use mj_decide::{kept_tids_below, session_oldest};
 use mj_event::{Event, UpdateEvent};
 use mj_meta::{DirLump, MetaBlob};
 use mj_tree::{ClientRequest, Op};
@@ -78,19 +78,6 @@ fn raised_oldest(cache: &Cache, r: &ClientRequest) -> Option<Tid>
     }
 }
 
-// Those below a number.
-fn tids_below(alloc: Global, tids: &[Tid], oldest: Tid) -> Result<Vec<Tid>, AllocError>
-    ensures { IfOk result (λ below. below.items ≡ filter (λ tid. nat_lt tid oldest) tids.now) }
-{
-    let mut below = Vec::new(alloc);
-    for tid in tids {
-        if *tid < oldest {
-            below.push(*tid)?;
-        }
-    }
-    Ok(below)
-}
-
 // The greater number.
 fn later(a: Tid, b: Tid) -> Tid
     ensures { result ≡ max a b }
@@ -108,8 +95,7 @@ fn dropped_replies(
     ensures { IfOk result (λ dropped. dropped ≡ dropped_replies r.entry.now (own_session (early_tree cache.now) r.entry.now)) }
 {
     let oldest = later(own_oldest(cache, r), r.oldest);
-    let kept = kept_tids(alloc, cache, r.client)?;
-    Ok(Items::from_vec(tids_below(alloc, &kept, oldest)?))
+    Ok(Items::from_vec(kept_tids_below(alloc, cache, r.client, oldest)?))
 }
 
 /// The event of a request that is accepted on an inode.

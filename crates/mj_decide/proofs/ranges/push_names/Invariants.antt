@@ -1,4 +1,4 @@
-use Rattle.std.proofs.Common.{◌≡◌, ◌++◌, length, List, ℕ}
+use Rattle.std.proofs.Common.{◌≡◌, ◌++◌, length}
 use Rattle.std.specs.Prelude.{filter}
 use Rattle.mj_tree.specs.Row.{names_in}
 use Rattle.mj_cells.specs.declared.cell.CellKey.TheVariants as key

@@ -3,8 +3,13 @@ use Rattle.std.specs.Prelude.{filter, nat_lt}
 use Rattle.mj_cache.specs.Cached.{early_tree}
 use Rattle.mj_delta.specs.Events.{tids}
 use Rattle.mj_decide.specs.Reads.{kept_of}
-use Rattle.mj_decide.proofs.Replies.{tids_push, tids_fewer}
+use Rattle.mj_decide.proofs.Replies.{from_own, tids_push, tids_fewer}
 use Rattle.mj_decide.proofs.ranges.session_tids.Goals as goal
+
+pub loop-tid-init : goal.loop-tid-init
+loop-tid-init c =
+    ap (λ (xs : List ℕ). xs ++ filter (nat_lt c.args.oldest) (tids (kept_of (early_tree c.args.cache.now) c.args.client))) c.in_ok-found.ensures
+    ∙ from_own c.args.cache.now c.requires.tree c.args.client c.args.oldest c.requires.oldest
 
 pub loop-tid-smaller : goal.loop-tid-smaller
 loop-tid-smaller c =
