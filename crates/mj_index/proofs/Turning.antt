@@ -1,6 +1,8 @@
 -- An index that follows a gentle group stands for the cells with it.
 use Rattle.std.proofs.Common.{arith, ◌≡◌, ℕ, ◌+◌, ◌<◌, Bool, true, false, cond, not, ◌&&◌, ◌||◌, List, [], ◌∷◌, length, drop, slice_index_or, Option, Some, None, refl, sym, ap, subst, ◌∙◌, ◌⊎◌, inl, inr}
-use Rattle.std.specs.Prelude.{is_some, nat_eq, filter_map, ◌==◌}
+use Rattle.std.specs.Global.{Vec}
+use Rattle.std.specs.Vec.{vec_len}
+use Rattle.std.specs.Prelude.{is_some, nat_eq, map, filter_map, ◌==◌}
 use Rattle.std.specs.Option.{option_map, option_and_then}
 use Rattle.std.specs.List.{AllByRecursion, cons_option, list_any}
 use Rattle.std.specs.BTreeMap.{is_at}
@@ -30,14 +32,15 @@ use Rattle.mj_recovery.proofs.Reaching.{reached_sound, reached_complete}
 use Rattle.mj_judge.specs.Own.{own_damage}
 use Rattle.mj_judge.specs.Parts.{pair_of, dentry_at, dir_at}
 use Rattle.mj_judge.proofs.PartMaps.{get-dentries, dentry_only}
-use Rattle.mj_tables.specs.Layered.{Layered, early_cells, early_of, writes_key}
+use Rattle.mj_tables.specs.Layered.{Layered, early_cells, writes_key}
 use Rattle.mj_index.specs.declared.known.Known.{Known}
 use Rattle.mj_index.specs.declared.index.Index.{Index}
 use Rattle.mj_index.specs.Places.{dentry_key}
 use Rattle.mj_index.specs.Known.{Inodes, nothing, known_at, is_dir_at, held_by, altered, as_dir}
 use Rattle.mj_index.specs.Said.{is_the, is_dentry_in, named_in, dir_named, record_of, record_held, full_inode, value_or_gone, cell_before, cell_after, left_dirs, led_dirs, written_dirs}
 use Rattle.mj_index.specs.Indexed.{place_key, full_at, IsMidway, IsIndexed}
-use Rattle.mj_index.specs.Following.{HasRoom, HasRoomFor, HasRoomAt, early_value, all_followed, all_dirs_set, SameIndex}
+use Rattle.mj_index.specs.Following.{HasRoom, HasRoomFor, HasRoomAt, early_value, followed, all_followed, all_dirs_set, SameIndex}
+use Rattle.mj_index.specs.Changes.{Change, changes_over, changed_key, dirs_out, all_changed}
 use Rattle.mj_index.specs.Course.{AreOnce, AreSingle, HasCounts, IsOnCourse}
 use Rattle.mj_index.specs.Gentle.{LeadsTo, IsNamed, IsBare, HasKeptWay, IsGentle}
 use Rattle.mj_index.specs.Gentle.HasKeptWay.{goes_down}
@@ -527,9 +530,6 @@ module _ (rank : ℕ) (l : Layered) (ws : List CellWrite) (x : Index) (left led 
       whole = λ k r free is. ap place_key (stays3 (λ k. k.full) (λ b k. refl) r.ino) ∙ mid1.whole k r free (sym (full_alike k) ∙ is);
     }
 
-same_values : (l n : Layered) → n.safe ≡ l.safe → n.groups ≡ l.groups → early_value n ≡ early_value l
-same_values l n safe groups = λ i k. value_or_gone (get (early_of (safe i) (groups i)) k)
-
 counts_spare : (m : Map key_cmp CellValue) (x : Index) (rank : ℕ) (dirs : ℕ → Bool) (more : ℕ) → IsMidway rank dirs m [] x → HasSpare x more → HasCounts m more
 counts_spare m x rank dirs more mid spare =
     let a = mid.all_dentries in
@@ -540,11 +540,65 @@ counts_spare m x rank dirs more mid spare =
     let f = spare.sessions in
     record { dentries = omega (arith, a, d); opens = omega (arith, b, e); sessions = omega (arith, c, f) }
 
+-- ---- changes
+
+left_over : (dirs : ℕ → Bool) (old : CellKey → CellValue) (ws : List CellWrite) → dirs_out dirs (changes_over old ws) ≡ left_dirs dirs old ws
+left_over dirs old [] = refl
+left_over dirs old (w ∷ ws) = ap (cons_option (dir_named dirs (cell_before old w))) (left_over dirs old ws)
+
+changed_over : (rank : ℕ) (old : CellKey → CellValue) (ws : List CellWrite) (x : Index) → all_changed rank (changes_over old ws) x ≡ all_followed rank old ws x
+changed_over rank old [] x = refl
+changed_over rank old (w ∷ ws) x = changed_over rank old ws (followed rank old w x)
+
+keys_over : (old : CellKey → CellValue) (ws : List CellWrite) → map changed_key (changes_over old ws) ≡ map (λ (w : CellWrite). w.key) ws
+keys_over old [] = refl
+keys_over old (w ∷ ws) = ap (λ ks. w.key ∷ ks) (keys_over old ws)
+
+pub left_changes : (dirs : ℕ → Bool) (old : CellKey → CellValue) (ws : List CellWrite) (cs : List Change) → cs ≡ changes_over old ws → dirs_out dirs cs ≡ left_dirs dirs old ws
+left_changes dirs old ws cs over = ap (dirs_out dirs) over ∙ left_over dirs old ws
+
+pub keys_changes : (old : CellKey → CellValue) (ws : List CellWrite) (cs : List Change) → cs ≡ changes_over old ws → map changed_key cs ≡ map (λ (w : CellWrite). w.key) ws
+keys_changes old ws cs over = ap (map changed_key) over ∙ keys_over old ws
+
 -- the index that followed a gentle group
-pub group_done : (rank : ℕ) (l n : Layered) (ws vs : List CellWrite) (x y z : Index) (left led : List ℕ) → IsGentleTurn x.known l ws left led → IsIndexed rank (early_cells l) x
-    → own_damage rank (table_of (early_cells l)) ≡ None → own_damage rank (table_of (put_all (early_cells l) ws)) ≡ None → SameIndex x y → HasRoom y.known vs → HasSpare x (length ws)
-    → n.safe ≡ l.safe → n.groups ≡ l.groups → vs ≡ ws → SameIndex (turned rank n vs left led y) z → IsIndexed rank (put_all (early_cells l) ws) z
-group_done rank l n ws vs x y z left led turn mid none none_after same room spare safe groups are follows =
-    same_midway rank (is_among (reachable (table_of (put_all (early_cells l) ws)))) (put_all (early_cells l) ws) [] (turned rank l ws left led y) z
-    (subst (λ (v : Index). SameIndex v z) (λ i. all_dirs_set true led (all_dirs_set false left (all_followed rank (same_values l n safe groups i) (are i) y))) follows)
-    (group_follows rank l ws x left led turn mid none none_after y same (subst (HasRoom y.known) are room) (counts_spare (early_cells l) x rank _ (length ws) mid spare))
+pub group_done : (rank : ℕ) (l : Layered) (ws : List CellWrite) (cs : List Change) (x y z : Index) (left led : List ℕ) → IsGentleTurn x.known l ws left led → IsIndexed rank (early_cells l) x
+    → own_damage rank (table_of (early_cells l)) ≡ None → own_damage rank (table_of (put_all (early_cells l) ws)) ≡ None → SameIndex x y → HasRoom y.known ws → HasSpare x (length ws)
+    → cs ≡ changes_over (early_value l) ws → SameIndex (turned rank cs left led y) z → IsIndexed rank (put_all (early_cells l) ws) z
+group_done rank l ws cs x y z left led turn mid none none_after same room spare over follows =
+    same_midway rank (is_among (reachable (table_of (put_all (early_cells l) ws)))) (put_all (early_cells l) ws) [] (all_dirs_set true led (all_dirs_set false left (all_followed rank (early_value l) ws y))) z
+    (subst (λ (v : Index). SameIndex (all_dirs_set true led (all_dirs_set false left v)) z) (ap (λ (ds : List Change). all_changed rank ds y) over ∙ changed_over rank (early_value l) ws y) follows)
+    (group_follows rank l ws x left led turn mid none none_after y same room (counts_spare (early_cells l) x rank _ (length ws) mid spare))
+
+-- ---- where no write names a directory
+
+no_length : (ds : List ℕ) → length ds ≡ 0 → ds ≡ []
+no_length [] none = refl
+no_length (d ∷ ds) none = absurd (omega (arith, none))
+
+pub no_items : (v : Vec ℕ) → (vec_len v == 0) ≡ true → v.items ≡ []
+no_items v none = no_length v.items (sym v.ok.0 ∙ eqb-true (vec_len v) 0 none)
+
+no_dir_named : (o : Option ℕ) (ds : List ℕ) → cons_option o ds ≡ [] → (o ≡ None) × (ds ≡ [])
+no_dir_named None ds is = (refl, is)
+no_dir_named (Some d) ds is = let longer : length (d ∷ ds) ≡ 0 = ap length is in absurd (omega (arith, longer))
+
+quiet_leads : (m : Inodes) (t : Table) (w : ℕ × List ℕ → Bool) (a b : ℕ → Bool) (ws : List CellWrite) → led_dirs (is_dir_at m) ws ≡ [] → AllByRecursion (LeadsWell m t w a b) ws
+quiet_leads m t w a b [] is = tt
+quiet_leads m t w a b (v ∷ ws) is =
+    let none = no_dir_named (dir_named (is_dir_at m) (cell_after v)) (led_dirs (is_dir_at m) ws) is in (
+      record {
+        moves = λ d i _ named _. absurd (none_some i (sym none.0 ∙ named));
+        begins = λ i named _. absurd (none_some i (sym none.0 ∙ named));
+      },
+      quiet_leads m t w a b ws none.1,
+    )
+
+-- writes that name no directory, before or after, are gentle where no key is written twice
+pub quiet_turn : (m : Inodes) (l : Layered) (ws : List CellWrite) (left led : List ℕ) → AreOnce ws → left ≡ left_dirs (is_dir_at m) (early_value l) ws → led ≡ led_dirs (is_dir_at m) ws → left ≡ [] → led ≡ [] → IsGentleTurn m l ws left led
+quiet_turn m l ws left led once left_is led_is no_left no_led = record {
+  once = once;
+  left_is = left_is;
+  led_is = led_is;
+  leaves = ap (all_pass (leaves_well m (is_among (written_dirs ws)) (is_among led))) no_left;
+  leads = quiet_leads m (table_of (early_cells l)) (is_written ws) (is_among (written_dirs ws)) (is_among left) ws (sym led_is ∙ no_led);
+}

@@ -3,6 +3,7 @@ pub mod Known
 pub mod Said
 pub mod Indexed
 pub mod Following
+pub mod Changes
 pub mod Course
 pub mod Grouped
 pub mod Placed

@@ -12,7 +12,8 @@ use Rattle.mj_tables.specs.Layered.{Layered, early_cells, writes_key}
 use Rattle.mj_index.specs.Places.{dentry_key}
 use Rattle.mj_index.specs.Known.{Inodes, known_at, is_dir_at}
 use Rattle.mj_index.specs.Said.{dir_named, cell_after, left_dirs, led_dirs, written_dirs}
-use Rattle.mj_index.specs.Following.{early_value, all_followed, all_dirs_set}
+use Rattle.mj_index.specs.Following.{early_value, all_dirs_set}
+use Rattle.mj_index.specs.Changes.{Change, all_changed}
 use Rattle.mj_index.specs.declared.index.Index.{Index}
 use Rattle.mj_index.specs.Course.{AreOnce}
 use Rattle.mj_index.specs.Gentle.{HasKeptWay, LeadsTo}
@@ -58,6 +59,6 @@ pub record IsGentleTurn (m : Inodes) (l : Layered) (ws : List CellWrite) (left l
   pub leaves : all_pass (leaves_well m (is_among (written_dirs ws)) (is_among led)) left ≡ true
   pub leads : AllByRecursion (LeadsWell m (table_of (early_cells l)) (is_written ws) (is_among (written_dirs ws)) (is_among left)) ws
 
--- the index that follows the writes, with the directories that they leave and lead to
-abbrev pub turned : ℕ → Layered → List CellWrite → List ℕ → List ℕ → Index → Index
-turned rank l ws left led x = all_dirs_set true led (all_dirs_set false left (all_followed rank (early_value l) ws x))
+-- the index that follows changes, with the directories that they leave and lead to
+abbrev pub turned : ℕ → List Change → List ℕ → List ℕ → Index → Index
+turned rank cs left led x = all_dirs_set true led (all_dirs_set false left (all_changed rank cs x))

@@ -2,12 +2,13 @@
 
 ghost use Rattle.std.specs.Prelude.{◌≡◌, map, IfOk, OnOk};
 ghost use Rattle.mj_cells.specs.declared.cell.CellWrite.{CellWrite};
-ghost use Rattle.mj_index.specs.Following.{taken, all_followed, early_value, SameIndex, HasRoom};
+ghost use Rattle.mj_index.specs.Following.{taken, SameIndex, HasRoom};
+ghost use Rattle.mj_index.specs.Changes.{change_of, changed_key, cell_out, all_changed};
 
+use crate::change::ChangeView;
 use crate::index::Index;
 use mj_base::RankNo;
 use mj_cells::{CellKey, CellWrite};
-use mj_tables::Layers;
 use std::alloc::{AllocError, Global};
 use std::collections::VecDeque;
 
@@ -47,44 +48,39 @@ pub fn reserve_rooms(
     copy_keys(alloc, ws)
 }
 
-// Takes out what the early cell of a key says.
-fn take_early(index: &mut Index, rank: RankNo, layers: &Layers, key: &CellKey)
-    ensures { index.new ≡ taken rank (key.now, early_value layers.now key.now) index.old }
+// Takes out what the key of a change said before.
+fn take_before(index: &mut Index, rank: RankNo, change: &ChangeView<'_>)
+    ensures { index.new ≡ taken rank (cell_out (change_of change.now)) index.old }
 {
-    match layers.early(key) {
-        Some(value) => index.take_cell(rank, key, value),
+    match change.before {
+        Some(value) => index.take_cell(rank, &change.write.key, value),
         None => {}
     }
 }
 
-/// Takes out what the keys say in the layers, and puts in what the writes say. `keys` are those of the writes, and have room.
-pub fn follow(
-    index: &mut Index,
-    rank: RankNo,
-    layers: &Layers,
-    ws: &[CellWrite],
-    keys: VecDeque<CellKey>,
-)
-    requires { keys.items ≡ map (λ (w : CellWrite). w.key) ws.now }
-    ensures { index.new ≡ all_followed rank (early_value layers.now) ws.now index.old }
+/// Takes out what the keys said before, and puts in what the writes say. `keys` are those of the writes, and have room.
+pub fn follow(index: &mut Index, rank: RankNo, changes: &[ChangeView<'_>], keys: VecDeque<CellKey>)
+    requires { keys.items ≡ map changed_key (map change_of changes.now) }
+    ensures { index.new ≡ all_changed rank (map change_of changes.now) index.old }
 {
     let mut left = keys;
-    for w in ws {
-        take_early(index, rank, layers, &w.key);
+    for change in changes {
+        take_before(index, rank, change);
         if let Some(key) = left.pop_front() {
-            index.put_cell(rank, key, &w.value);
+            index.put_cell(rank, key, &change.write.value);
         }
     }
 }
 
 /// Gives up the room of inodes that the writes touch and of which nothing is known.
-pub fn drop_rooms(index: &mut Index, layers: &Layers, ws: &[CellWrite])
+pub fn drop_rooms(index: &mut Index, changes: &[ChangeView<'_>])
     ensures { SameIndex index.old index.new }
 {
-    for w in ws {
-        index.drop_room_for(&w.key, &w.value);
-        if let Some(before) = layers.early(&w.key) {
-            index.drop_room_for(&w.key, before);
+    for change in changes {
+        let write = change.write;
+        index.drop_room_for(&write.key, &write.value);
+        if let Some(before) = change.before {
+            index.drop_room_for(&write.key, before);
         }
     }
 }

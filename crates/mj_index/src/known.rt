@@ -75,7 +75,8 @@ fn unless_at(full: Option<FullPlace>, key: &CellKey) -> Option<FullPlace>
     }
 }
 
-fn is_same(key: &CellKey, other: &CellKey) -> bool
+/// Whether the keys are the same.
+pub fn is_same(key: &CellKey, other: &CellKey) -> bool
     ensures { result ≡ same_key key.now other.now }
 {
     match compare(key, other) {

@@ -1,6 +1,7 @@
 //! What is looked up in the tree of a table of cells, by an index that follows groups of writes.
 #![tactic(auto)]
 
+mod change;
 mod following;
 mod group;
 mod index;

@@ -1,20 +1,23 @@
 //! Whether no directory that has dentries begins or ceases to be reachable with a group of writes.
 
-ghost use Rattle.std.specs.Prelude.{◌≡◌, ℕ, true, Some, IfOk, IfSome};
+ghost use Rattle.std.specs.Prelude.{◌≡◌, ℕ, true, map, Some, IfOk, IfSome};
 ghost use Rattle.std.specs.List.{AllByRecursion};
 ghost use Rattle.std.specs.Option.{option_copied, option_and_then};
 ghost use Rattle.mj_cells.specs.Table.{table_of, dentry_of};
 ghost use Rattle.mj_recovery.specs.Tree.{is_among, subdir};
-ghost use Rattle.mj_tables.specs.Layered.{early_cells};
+ghost use Rattle.mj_tables.specs.Layered.{early_cells, writes_key};
 ghost use Rattle.mj_index.specs.Places.{dentry_key};
 ghost use Rattle.mj_index.specs.Known.{known_at, is_dir_at};
 ghost use Rattle.mj_index.specs.Indexed.{place_key};
 ghost use Rattle.mj_index.specs.Said.{dir_named, left_dirs, led_dirs, written_dirs};
 ghost use Rattle.mj_index.specs.Following.{early_value};
+ghost use Rattle.mj_index.specs.Changes.{change_of, changes_over, cell_out, dirs_out};
+ghost use Rattle.mj_index.specs.Course.{AreOnce};
 ghost use Rattle.mj_index.specs.Gentle.{HasKeptWay};
 ghost use Rattle.mj_index.specs.Turning.{has_key, all_pass, is_bare, leaves_well, LeadsWell, IsGentleTurn, AreKeysOf, HasPlaceKept};
 
-use crate::known::KnownInodes;
+use crate::change::ChangeView;
+use crate::known::{KnownInodes, is_same};
 use crate::said::dir_named;
 use mj_base::Ino;
 use mj_cells::{CellKey, CellValue, CellWrite};
@@ -23,6 +26,9 @@ use mj_recovery::ROOT;
 use mj_tables::Layers;
 use std::alloc::{AllocError, Global};
 use std::collections::BTreeSet;
+
+// The keys of so many writes are compared with each other, rather than copied into a set.
+const FEW: usize = 16;
 
 /// The directories that the written dentries of reachable directories named before, and those that they name now.
 #[derive(Drop)]
@@ -43,6 +49,42 @@ fn written_keys(alloc: Global, ws: &[CellWrite]) -> Result<Option<BTreeSet<CellK
         }
     }
     Ok(Some(keys))
+}
+
+fn is_written(ws: &[CellWrite], key: &CellKey) -> bool
+    ensures { result ≡ writes_key key.now ws.now }
+{
+    for w in ws {
+        if is_same(key, &w.key) {
+            return true;
+        }
+    }
+    false
+}
+
+// Whether no key is that of a later write too.
+fn differ(ws: &[CellWrite]) -> bool
+    ensures { result ≡ true → AreOnce ws.now }
+{
+    for i in 0..ws.len() {
+        if is_written(&ws[i + 1..], &ws[i].key) {
+            return false;
+        }
+    }
+    true
+}
+
+// Whether no key is written twice.
+fn are_once(alloc: Global, ws: &[CellWrite]) -> Result<bool, AllocError>
+    ensures { IfOk result (λ b. b ≡ true → AreOnce ws.now) }
+{
+    if ws.len() <= FEW {
+        return Ok(differ(ws));
+    }
+    match written_keys(alloc, ws)? {
+        Some(_) => Ok(true),
+        None => Ok(false),
+    }
 }
 
 fn has_key(keys: &BTreeSet<CellKey>, key: &CellKey) -> bool
@@ -67,12 +109,12 @@ fn set_of(alloc: Global, inodes: &[Ino]) -> Result<BTreeSet<Ino>, AllocError>
     Ok(set)
 }
 
-// The directory that the early cell of a key names.
-fn dir_named_before(known: &KnownInodes, layers: &Layers, key: &CellKey) -> Option<Ino>
-    ensures { result ≡ dir_named (is_dir_at known.now) (key.now, early_value layers.now key.now) }
+// The directory that the key of a change named before.
+fn dir_named_before(known: &KnownInodes, change: &ChangeView<'_>) -> Option<Ino>
+    ensures { result ≡ dir_named (is_dir_at known.now) (cell_out (change_of change.now)) }
 {
-    match layers.early(key) {
-        Some(value) => dir_named(known, key, value),
+    match change.before {
+        Some(value) => dir_named(known, &change.write.key, value),
         None => None,
     }
 }
@@ -80,14 +122,13 @@ fn dir_named_before(known: &KnownInodes, layers: &Layers, key: &CellKey) -> Opti
 fn left_dirs(
     alloc: Global,
     known: &KnownInodes,
-    layers: &Layers,
-    ws: &[CellWrite],
+    changes: &[ChangeView<'_>],
 ) -> Result<Vec<Ino>, AllocError>
-    ensures { IfOk result (λ v. v.items ≡ left_dirs (is_dir_at known.now) (early_value layers.now) ws.now) }
+    ensures { IfOk result (λ v. v.items ≡ dirs_out (is_dir_at known.now) (map change_of changes.now)) }
 {
     let mut found = Vec::new(alloc);
-    for w in ws {
-        if let Some(dir) = dir_named_before(known, layers, &w.key) {
+    for change in changes {
+        if let Some(dir) = dir_named_before(known, change) {
             found.push(dir)?;
         }
     }
@@ -238,20 +279,24 @@ fn leads_well(
     true
 }
 
-// Whether the directories that come and go, or move, are those of a gentle group.
+// Whether no key is written twice, and the directories that come and go, or move, are those of a gentle group.
 fn turns_well(
     alloc: Global,
     known: &KnownInodes,
     layers: &Layers,
-    keys: &BTreeSet<CellKey>,
     ws: &[CellWrite],
     turn: &Turn,
 ) -> Result<bool, AllocError>
-    requires keys { AreKeysOf keys.now ws.now }
     requires left { turn.now.left.items ≡ left_dirs (is_dir_at known.now) (early_value layers.now) ws.now }
     requires led { turn.now.led.items ≡ led_dirs (is_dir_at known.now) ws.now }
     ensures { IfOk result (λ b. b ≡ true → IsGentleTurn known.now layers.now ws.now turn.now.left.items turn.now.led.items) }
 {
+    if turn.left.is_empty() && turn.led.is_empty() {
+        return are_once(alloc, ws);
+    }
+    let Some(keys) = written_keys(alloc, ws)? else {
+        return Ok(false);
+    };
     let dirs = written_dirs(alloc, ws)?;
     let written = set_of(alloc, &dirs)?;
     let left = set_of(alloc, &turn.left)?;
@@ -259,7 +304,7 @@ fn turns_well(
     if !leaves_well(known, &written, &led, &turn.left) {
         return Ok(false);
     }
-    Ok(leads_well(known, layers, keys, &written, &left, ws))
+    Ok(leads_well(known, layers, &keys, &written, &left, ws))
 }
 
 /// What a group turns, where it is gentle. Time grows with the writes, and with how deep the directories lie that move.
@@ -268,17 +313,16 @@ pub fn gentle_turn(
     known: &KnownInodes,
     layers: &Layers,
     ws: &[CellWrite],
+    changes: &[ChangeView<'_>],
 ) -> Result<Option<Turn>, AllocError>
+    requires { map change_of changes.now ≡ changes_over (early_value layers.now) ws.now }
     ensures { IfOk result (λ o. IfSome o (λ turn. IsGentleTurn known.now layers.now ws.now turn.left.items turn.led.items)) }
 {
-    let Some(keys) = written_keys(alloc, ws)? else {
-        return Ok(None);
-    };
     let turn = Turn {
-        left: left_dirs(alloc, known, layers, ws)?,
+        left: left_dirs(alloc, known, changes)?,
         led: led_dirs(alloc, known, ws)?,
     };
-    if turns_well(alloc, known, layers, &keys, ws, &turn)? {
+    if turns_well(alloc, known, layers, ws, &turn)? {
         Ok(Some(turn))
     } else {
         Ok(None)
