@@ -1,11 +1,15 @@
 -- What is known after a change at one inode.
 use Rattle.std.proofs.Common.{◌≡◌, ℕ, ◌+◌, ◌≤◌, arith, Bool, true, false, cond, ◌&&◌, List, [], ◌∷◌, length, Option, Some, None, refl, sym, ap, ◌∙◌, ◌⊎◌, inl, inr}
-use Rattle.std.specs.Prelude.{is_some, is_none, not, unwrap_or, ◌-◌, ◌==◌}
+use Rattle.std.specs.Prelude.{is_some, is_none, not, unwrap_or, ◌-◌, ◌==◌, nat_eq}
 use Rattle.std.specs.Ordering.{eq_by_cmp}
+use Rattle.std.specs.Cmp.{unsigned_ties}
+use Rattle.std.specs.BTreeMap.{is_at}
+use Rattle.std.specs.Map.{lookup}
 use Rattle.std.proofs.lemmas.Bool.{true≢false, eqb-true}
 use Rattle.mj_maps.specs.Map.{get, insert, remove, count, passing, from_entries}
 use Rattle.mj_maps.specs.Orders.{nat_cmp}
 use Rattle.mj_maps.proofs.MapLaws.{exact_nat, cases_key, insert_same, insert_other, insert-insert, remove_same, remove_other, absent_remove, count-insert_new, count-insert_over, count-remove, entries-empty}
+use Rattle.mj_maps.proofs.Kept.{get_kept, one_given, one_taken}
 use Rattle.mj_index.specs.declared.known.FullPlace.{FullPlace}
 use Rattle.mj_index.specs.declared.known.Known.{Known}
 use Rattle.mj_index.specs.Known.{Inodes, nothing, is_nothing, known_at, SameKnown, keeps, keeps_entry, replaced, with_room, altered, altered_at}
@@ -159,3 +163,17 @@ count_room_gone m i none = elim (get m i) as (λ o. get m i ≡ o → count keep
   | None ↦ λ is. ap (λ (n : Inodes). count keeps_entry n) (absent_remove exact_nat m i is)
   | Some v ↦ λ is. count_gone m i v is (sym (known_is m i (Some v) is) ∙ none)
 ] refl
+
+-- ---- the entries of a hash map against the finite map that they make
+
+by_number : (q : ℕ) (es : List (ℕ × Known)) → lookup (is_at (nat_cmp q)) es ≡ lookup (nat_eq q) es
+by_number q es = ap (λ (test : ℕ → Bool). lookup test es) (λ i k. sym (unsigned_ties q k) i)
+
+pub get_hashed : (es : List (ℕ × Known)) (n i : ℕ) → n ≡ i → get (from_entries {R = nat_cmp} es) i ≡ lookup (nat_eq n) es
+get_hashed es n i e = ap (λ j. get (from_entries {R = nat_cmp} es) j) (sym e) ∙ get_kept exact_nat es n ∙ by_number n es
+
+pub given_hashed : (es fs : List (ℕ × Known)) (n i : ℕ) (k : Known) → n ≡ i → ((q : ℕ) → lookup (nat_eq q) fs ≡ cond (nat_eq n q) (Some k) (lookup (nat_eq q) es)) → from_entries {R = nat_cmp} fs ≡ insert (from_entries es) i k
+given_hashed es fs n i k e h = one_given exact_nat es fs n k (λ q. by_number q fs ∙ h q ∙ (λ j. cond (unsigned_ties n q j) (Some k) (sym (by_number q es) j))) ∙ ap (λ j. insert (from_entries {R = nat_cmp} es) j k) e
+
+pub taken_hashed : (es fs : List (ℕ × Known)) (n i : ℕ) → n ≡ i → ((q : ℕ) → lookup (nat_eq q) fs ≡ cond (nat_eq n q) None (lookup (nat_eq q) es)) → from_entries {R = nat_cmp} fs ≡ remove (from_entries es) i
+taken_hashed es fs n i e h = one_taken exact_nat es fs n (λ q. by_number q fs ∙ h q ∙ (λ j. cond (unsigned_ties n q j) None (sym (by_number q es) j))) ∙ ap (λ j. remove (from_entries {R = nat_cmp} es) j) e

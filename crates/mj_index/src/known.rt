@@ -10,7 +10,7 @@ use mj_base::Ino;
 use mj_cells::{CellKey, compare};
 use std::alloc::{AllocError, Global};
 use std::cmp::Ordering;
-use std::collections::BTreeMap;
+use std::collections::HashMap;
 use std::marker::Model;
 use std::mem;
 
@@ -89,7 +89,7 @@ pub fn is_same(key: &CellKey, other: &CellKey) -> bool
 /// known, and so is an entry that only makes room.
 #[derive(Drop)]
 pub struct KnownInodes {
-    by_inode: BTreeMap<Ino, Known>,
+    by_inode: HashMap<u64, Known>,
     kept: u64,
 }
 
@@ -116,7 +116,7 @@ impl KnownInodes {
         ensures { result ≡ empty }
     {
         KnownInodes {
-            by_inode: BTreeMap::new(alloc),
+            by_inode: HashMap::new(alloc),
             kept: 0,
         }
     }
@@ -125,7 +125,7 @@ impl KnownInodes {
     pub fn get(&self, ino: Ino) -> Option<&Known>
         ensures { option_copied result ≡ get self.now ino }
     {
-        self.by_inode.get(&ino)
+        self.by_inode.get(&ino.0)
     }
 
     /// Whether an inode is a reachable directory.
@@ -165,8 +165,8 @@ impl KnownInodes {
         ensures ok { OnOk result (self.new ≡ with_room self.old ino) }
         ensures err { OnErr result (self.new ≡ self.old) }
     {
-        if !self.by_inode.contains_key(&ino) {
-            drop(self.by_inode.insert(ino, Known::nothing())?);
+        if !self.by_inode.contains_key(&ino.0) {
+            drop(self.by_inode.insert(ino.0, Known::nothing())?);
         }
         Ok(())
     }
@@ -178,7 +178,7 @@ impl KnownInodes {
     {
         let size = self.by_inode.len() as u64;
         let keeps = known.keeps();
-        match self.by_inode.get_mut(&ino) {
+        match self.by_inode.get_mut(&ino.0) {
             Some(place) => {
                 let before = mem::replace(place, known);
                 self.kept = counted(self.kept, before.keeps(), keeps);
@@ -274,7 +274,7 @@ impl KnownInodes {
         ensures { SameKnown self.old self.new }
     {
         if self.is_room(ino) {
-            drop(self.by_inode.remove(&ino));
+            drop(self.by_inode.remove(&ino.0));
         }
     }
 }
