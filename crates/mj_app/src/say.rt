@@ -15,6 +15,9 @@ use mj_lines::{Answer, append_turn};
 use mj_texts::append_numbers;
 use std::alloc::Global;
 
+/// Room for the line of a request that is answered, which needs no more but where names are listed.
+const LINE: usize = 64;
+
 /// Why a text was not printed whole.
 #[derive(Clone, Copy, Debug, PartialEq, Eq)]
 pub enum Unsaid {
@@ -33,7 +36,9 @@ pub fn say_turn<K: Sink>(
     ensures said { Prints (turn_text number answer.now) (sink_state K.taken K.faults out.old) (sink_state K.taken K.faults out.new) result }
     ensures later { K.faults out.old ≤ K.faults out.new }
 {
-    let mut text = Vec::new(alloc);
+    let Ok(mut text) = Vec::with_capacity(alloc, LINE) else {
+        return Err(Unsaid::Memory);
+    };
     match append_turn(number, answer, &mut text) {
         Ok(()) => put_text(&text, out),
         Err(_) => Err(Unsaid::Memory),
