@@ -23,7 +23,7 @@ pub fn early_changes<'a>(
 ) -> Result<Vec<ChangeView<'a>>, AllocError>
     ensures { IfOk result (λ v. map change_of v.items ≡ changes_over (early_value layers.now) ws.now) }
 {
-    let mut changes = Vec::new(alloc);
+    let mut changes = Vec::with_capacity(alloc, ws.len())?;
     for write in ws {
         let before = layers.early(&write.key);
         changes.push(ChangeView { write, before })?;

@@ -169,7 +169,7 @@ fn start_above(after: Option<&CellKey>) -> Bound<&CellKey>
 fn copy_values(alloc: Global, ws: &[CellWrite]) -> Result<Vec<CellValue>, AllocError>
     ensures { IfOk result (λ values. values.items ≡ map (λ (w : CellWrite). w.value) ws.now) }
 {
-    let mut values = Vec::new(alloc);
+    let mut values = Vec::with_capacity(alloc, ws.len())?;
     for w in ws {
         let value = w.value.copy(alloc)?;
         values.push(value)?;
