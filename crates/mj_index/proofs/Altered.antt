@@ -1,5 +1,5 @@
 -- What is known after a change at one inode.
-use Rattle.std.proofs.Common.{◌≡◌, ℕ, ◌+◌, ◌≤◌, arith, Bool, true, false, cond, ◌&&◌, List, [], ◌∷◌, length, Option, Some, None, refl, sym, ap, ◌∙◌, ◌⊎◌, inl, inr}
+use Rattle.std.proofs.Common.{◌≡◌, ℕ, ◌+◌, ◌≤◌, arith, Bool, true, false, cond, ◌&&◌, List, [], ◌∷◌, length, Option, Some, None, refl, sym, ap, subst, ◌∙◌, ◌⊎◌, inl, inr}
 use Rattle.std.specs.Prelude.{is_some, is_none, not, unwrap_or, ◌-◌, ◌==◌, nat_eq}
 use Rattle.std.specs.Ordering.{eq_by_cmp}
 use Rattle.std.specs.Cmp.{unsigned_ties}
@@ -8,11 +8,11 @@ use Rattle.std.specs.Map.{lookup}
 use Rattle.std.proofs.lemmas.Bool.{true≢false, eqb-true}
 use Rattle.mj_maps.specs.Map.{get, insert, remove, count, passing, from_entries}
 use Rattle.mj_maps.specs.Orders.{nat_cmp}
-use Rattle.mj_maps.proofs.MapLaws.{exact_nat, cases_key, insert_same, insert_other, insert-insert, remove_same, remove_other, absent_remove, count-insert_new, count-insert_over, count-remove, entries-empty}
+use Rattle.mj_maps.proofs.MapLaws.{exact_nat, cases_key, insert_same, insert_other, remove_same, remove_other, absent_remove, count-insert_new, count-insert_over, count-remove, entries-empty}
 use Rattle.mj_maps.proofs.Kept.{get_kept, one_given, one_taken}
 use Rattle.mj_index.specs.declared.known.FullPlace.{FullPlace}
 use Rattle.mj_index.specs.declared.known.Known.{Known}
-use Rattle.mj_index.specs.Known.{Inodes, nothing, is_nothing, known_at, SameKnown, keeps, keeps_entry, replaced, with_room, altered, altered_at}
+use Rattle.mj_index.specs.Known.{Inodes, nothing, is_nothing, known_at, SameKnown, keeps, keeps_entry, AltersBy, AltersBy_at, with_room, altered, altered_at}
 
 -- what is known at the inode, where the change leaves nothing as nothing or there is room
 pub known-altered_same : (m : Inodes) (i : ℕ) (f : Known → Known) → (f nothing ≡ nothing) ⊎ (is_some (get m i) ≡ true) → known_at (altered m i f) i ≡ f (known_at m i)
@@ -46,18 +46,12 @@ kept g f h j m i = elim (get m i) as (λ o. get m i ≡ o → g (known_at (alter
   ]
 ] refl
 
--- what is taken out, changed and put back
-pub replaced_twice : (m : Inodes) (i : ℕ) (f : Known → Known) → replaced (replaced m i nothing) i (f (known_at m i)) ≡ altered m i f
-replaced_twice m i f = elim (get m i) as (λ o. get m i ≡ o → replaced (cond (is_some o) (insert m i nothing) m) i (f (unwrap_or o nothing)) ≡ altered_at m i f o) [
-  | None ↦ λ none. ap (λ (p : Option Known). cond (is_some p) (insert m i (f nothing)) m) none
-  | Some k ↦ λ _. ap (λ (p : Option Known). cond (is_some p) (insert (insert m i nothing) i (f k)) (insert m i nothing)) (insert_same exact_nat m i nothing) ∙ insert-insert exact_nat m i nothing (f k)
-] refl
+-- a change at an inode that has room, and at one that has none
+pub alters_some : (C : Known → Known → Type 0) (m v n : Inodes) (i : ℕ) (k l : Known) → m ≡ v → get m i ≡ Some k → C k l → n ≡ insert m i l → AltersBy C v i n
+alters_some C m v n i k l e some change is = subst (λ w. AltersBy C w i n) e (subst (λ (o : Option Known). AltersBy_at C m i n o) (sym some) (l, change, is))
 
-pub replaced_at : (m : Inodes) (i : ℕ) (k : Known) (o : Option Known) → get m i ≡ o → replaced m i k ≡ cond (is_some o) (insert m i k) m
-replaced_at m i k o e = ap (λ (p : Option Known). cond (is_some p) (insert m i k) m) e
-
-pub room_at : (m : Inodes) (i : ℕ) (o : Option Known) → get m i ≡ o → with_room m i ≡ cond (is_some o) m (insert m i nothing)
-room_at m i o e = ap (λ (p : Option Known). cond (is_some p) m (insert m i nothing)) e
+pub alters_none : (C : Known → Known → Type 0) (m v n : Inodes) (i : ℕ) → m ≡ v → get m i ≡ None → n ≡ m → AltersBy C v i n
+alters_none C m v n i e none is = subst (λ w. AltersBy C w i n) e (subst (λ (o : Option Known). AltersBy_at C m i n o) (sym none) is)
 
 -- ---- room
 
@@ -125,12 +119,6 @@ count_gone m i v some none =
 
 pub count_no : count keeps_entry (from_entries {R = nat_cmp} []) ≡ 0
 count_no = ap (passing keeps_entry) (entries-empty {X = Known} nat_cmp)
-
--- ---- what is taken out, changed and put back, step by step
-
-pub in_turn : (m n o : Inodes) (i : ℕ) (f : Known → Known) (none k l : Known) → none ≡ nothing → k ≡ known_at m i → n ≡ replaced m i none → l ≡ f k → o ≡ replaced n i l → o ≡ altered m i f
-in_turn m n o i f none k l is_none is_known is_out is_changed is_back =
-    is_back ∙ (λ j. replaced ((is_out ∙ ap (replaced m i) is_none) j) i ((is_changed ∙ ap f is_known) j)) ∙ replaced_twice m i f
 
 pub none_of : {A : Type 0} (o : Option A) → is_some o ≡ false → o ≡ None
 none_of None e = refl

@@ -45,9 +45,6 @@ held_by rank dirs d = nat_eq (stray_ino rank) d || dirs d
 
 -- ---- changes at one inode that has room
 
-abbrev pub replaced : Inodes → ℕ → Known → Inodes
-replaced m i k = if contains_key m i then insert m i k else m
-
 abbrev pub with_room : Inodes → ℕ → Inodes
 with_room m i = if contains_key m i then m else insert m i nothing
 
@@ -57,6 +54,14 @@ altered_at m i f (Some k) = insert m i (f k)
 
 abbrev pub altered : Inodes → ℕ → (Known → Known) → Inodes
 altered m i f = altered_at m i f (get m i)
+
+-- n is m after a change at an inode that has room, where C k l says that the change may make l of k
+abbrev pub AltersBy_at : (Known → Known → Type 0) → Inodes → ℕ → Inodes → Option Known → Type 0
+AltersBy_at C m i n None = n ≡ m
+AltersBy_at C m i n (Some k) = (l : Known) × C k l × (n ≡ insert m i l)
+
+abbrev pub AltersBy : (Known → Known → Type 0) → Inodes → ℕ → Inodes → Type 0
+AltersBy C m i n = AltersBy_at C m i n (get m i)
 
 -- the largest count
 abbrev pub most : ℕ

@@ -2,9 +2,10 @@
 
 ghost use Rattle.std.specs.Prelude.{◌≡◌, true, ◌+◌, ◌-◌, ◌^◌, ◌<◌, OnOk, OnErr, if◌then◌else◌};
 ghost use Rattle.std.specs.Option.{option_copied};
+ghost use Rattle.std.specs.Fn.{FnOnceReturnsAtMut};
 ghost use Rattle.mj_maps.specs.Map.{get, count, empty};
 ghost use Rattle.mj_cells.specs.Cell.{same_key};
-ghost use Rattle.mj_index.specs.Known.{SameKnown, nothing, known_at, keeps, keeps_entry, is_dir_at, replaced, with_room, altered, less_dentry, more_dentry, less_open, more_open, as_dir, without_full, with_full, unless_at, is_nothing};
+ghost use Rattle.mj_index.specs.Known.{SameKnown, nothing, known_at, keeps, keeps_entry, is_dir_at, AltersBy, with_room, altered, less_dentry, more_dentry, less_open, more_open, as_dir, without_full, with_full, unless_at, is_nothing};
 
 use mj_base::Ino;
 use mj_cells::{CellKey, compare};
@@ -12,7 +13,6 @@ use std::alloc::{AllocError, Global};
 use std::cmp::Ordering;
 use std::collections::HashMap;
 use std::marker::Model;
-use std::mem;
 
 /// Where the full dentry of an inode stands, and how many links its record counts.
 #[derive(Drop)]
@@ -171,23 +171,17 @@ impl KnownInodes {
         Ok(())
     }
 
-    // Puts this in the place of what is known of an inode with room.
-    fn replace(&mut self, ino: Ino, known: Known) -> Known
-        ensures before { result ≡ known_at self.old ino }
-        ensures after { self.new ≡ replaced self.old ino known }
+    // Changes what is known of an inode with room.
+    fn alter<F: FnOnce(&mut Known)>(&mut self, ino: Ino, change: F)
+        requires { F.IsAlwaysCallable change }
+        ensures { AltersBy (λ k l. FnOnceReturnsAtMut F.FnOnce change k tt l) self.old ino self.new }
     {
-        let size = self.by_inode.len() as u64;
-        let keeps = known.keeps();
-        match self.by_inode.get_mut(&ino.0) {
-            Some(place) => {
-                let before = mem::replace(place, known);
-                self.kept = counted(self.kept, before.keeps(), keeps);
-                before
-            }
-            None => {
-                drop(known);
-                Known::nothing()
-            }
+        // The length bounds how many are kept.
+        let _ = self.by_inode.len();
+        if let Some(known) = self.by_inode.get_mut(&ino.0) {
+            let before = known.keeps();
+            change(known);
+            self.kept = counted(self.kept, before, known.keeps());
         }
     }
 
@@ -195,68 +189,55 @@ impl KnownInodes {
     pub fn less_dentry(&mut self, dir: Ino)
         ensures { self.new ≡ altered self.old dir less_dentry }
     {
-        let mut known = self.replace(dir, Known::nothing());
-        known.dentries = known.dentries.saturating_sub(1);
-        drop(self.replace(dir, known));
+        self.alter(
+            dir,
+            |known| known.dentries = known.dentries.saturating_sub(1),
+        );
     }
 
     /// One dentry more in a directory that has room.
     pub fn more_dentry(&mut self, dir: Ino)
         ensures { self.new ≡ altered self.old dir more_dentry }
     {
-        let mut known = self.replace(dir, Known::nothing());
-        known.dentries = known.dentries.saturating_add(1);
-        drop(self.replace(dir, known));
+        self.alter(
+            dir,
+            |known| known.dentries = known.dentries.saturating_add(1),
+        );
     }
 
     /// One client less has an inode open.
     pub fn less_open(&mut self, ino: Ino)
         ensures { self.new ≡ altered self.old ino less_open }
     {
-        let mut known = self.replace(ino, Known::nothing());
-        known.opens = known.opens.saturating_sub(1);
-        drop(self.replace(ino, known));
+        self.alter(ino, |known| known.opens = known.opens.saturating_sub(1));
     }
 
     /// One client more has an inode open that has room.
     pub fn more_open(&mut self, ino: Ino)
         ensures { self.new ≡ altered self.old ino more_open }
     {
-        let mut known = self.replace(ino, Known::nothing());
-        known.opens = known.opens.saturating_add(1);
-        drop(self.replace(ino, known));
+        self.alter(ino, |known| known.opens = known.opens.saturating_add(1));
     }
 
     /// The full dentry of an inode, where it is at this key, is gone.
     pub fn less_full(&mut self, ino: Ino, key: &CellKey)
         ensures { self.new ≡ altered self.old ino (without_full key.now) }
     {
-        let known = self.replace(ino, Known::nothing());
-        let less = Known {
-            full: unless_at(known.full, key),
-            is_dir: known.is_dir,
-            dentries: known.dentries,
-            opens: known.opens,
-        };
-        drop(self.replace(ino, less));
+        self.alter(ino, |known| known.full = unless_at(known.full.take(), key));
     }
 
     /// The full dentry of an inode that has room is at this key.
     pub fn more_full(&mut self, ino: Ino, key: CellKey, links: u32)
         ensures { self.new ≡ altered self.old ino (with_full key links) }
     {
-        let mut known = self.replace(ino, Known::nothing());
-        known.full = Some(FullPlace { key, links });
-        drop(self.replace(ino, known));
+        self.alter(ino, |known| known.full = Some(FullPlace { key, links }));
     }
 
     /// An inode that has room is a reachable directory, or is none.
     pub fn set_dir(&mut self, ino: Ino, is_dir: bool)
         ensures { self.new ≡ altered self.old ino (as_dir is_dir) }
     {
-        let mut known = self.replace(ino, Known::nothing());
-        known.is_dir = is_dir;
-        drop(self.replace(ino, known));
+        self.alter(ino, |known| known.is_dir = is_dir);
     }
 
     // Whether an entry only makes room.
