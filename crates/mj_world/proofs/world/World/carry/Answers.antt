@@ -2,6 +2,7 @@ use Rattle.std.proofs.Common.{sym, ◌∙◌, subst}
 use Rattle.mj_rank.specs.Live.{StopsSafely}
 use Rattle.std.specs.Prelude.{Ok}
 use Rattle.mj_rank.specs.declared.answers.MountStep.TheVariants.{Ready}
+use Rattle.mj_world.specs.World.{PhaseSince}
 use Rattle.mj_world.specs.Tells.{WhileMounting}
 use Rattle.mj_world.specs.declared.answers.Said.TheVariants.{Carried}
 use Rattle.mj_world.specs.declared.world.Phase.TheVariants.{Mounting, Serving}
@@ -12,6 +13,11 @@ use Rattle.mj_world.proofs.Stays.{mount_goes}
 use Rattle.mj_world.proofs.world.World.carry.Goals as goal
 
 -- ---- a rank serves
+
+pub returns-in-Ok-Ready-clause-since : goal.returns-in-Ok-Ready-clause-since
+returns-in-Ok-Ready-clause-since g c = λ base since.
+    subst (PhaseSince g.S.ObjectStore.faults g.S.ObjectStore.unreported base) (sym c.put.ensures.phase)
+    (c.finish.ensures.since base (c.step.ensures.since base (subst (PhaseSince g.S.ObjectStore.faults g.S.ObjectStore.unreported base) (sym c.replace.ensures.value ∙ c.in-Mounting.is) since)))
 
 pub returns-in-Ok-Ready-clause-live : goal.returns-in-Ok-Ready-clause-live
 returns-in-Ok-Ready-clause-live g c = λ m.
