@@ -84,14 +84,8 @@ fn answer_to_line<S: ObjectStore>(
 {
     match line {
         Line::Blank => Ok(None),
-        Line::One(step) => match one_step(alloc, world, step) {
-            Ok(answer) => Ok(Some(answer)),
-            Err(e) => Err(e),
-        },
-        Line::Mount => match mount(alloc, world) {
-            Ok(answer) => Ok(Some(answer)),
-            Err(e) => Err(e),
-        },
+        Line::One(step) => Ok(Some(one_step(alloc, world, step)?)),
+        Line::Mount => Ok(Some(mount(alloc, world)?)),
     }
 }
 

@@ -1,6 +1,6 @@
 -- The lists that are taken from cells are the entries of the tree's maps.
-use Rattle.std.proofs.Common.{Ordering, ◌≡◌, ℕ, ◌+◌, cond, List, [], ◌∷◌, map, Option, Some, None, T, refl, sym, ap, subst, ◌∙◌}
-use Rattle.std.specs.Prelude.{IsTrue, filter_map, nat_lt}
+use Rattle.std.proofs.Common.{Ordering, ◌≡◌, ℕ, cond, List, [], ◌∷◌, map, Option, Some, None, T, refl, sym, ap, subst, ◌∙◌}
+use Rattle.std.specs.Prelude.{IsTrue, filter_map}
 use Rattle.std.specs.Option.{option_map}
 use Rattle.std.specs.List.{cons_option}
 use Rattle.std.specs.List.Sorted.{IsStrictlySortedBy}
@@ -9,12 +9,11 @@ use Rattle.mj_base.specs.declared.record.InodeRecord.{InodeRecord}
 use Rattle.mj_maps.specs.Map.{Map, entries, entries_sorted, from_entries, collect, picked, with_some}
 use Rattle.mj_maps.specs.Orders.{nat_cmp, pair_cmp}
 use Rattle.mj_maps.proofs.MapLaws.{Exact, exact_nat, from_entries-entries, entries-from_entries}
-use Rattle.mj_tree.specs.State.{attributes_of}
 use Rattle.mj_cells.specs.declared.cell.CellValue.{CellValue}
 use Rattle.mj_cells.specs.Cell.{key_cmp}
 use Rattle.mj_cells.specs.Table.{Dentry, Table, table_of}
 use Rattle.mj_recovery.specs.Sorted.{with_unit}
-use Rattle.mj_recovery.specs.Tree.{Entry, ino_of, link_in, reachable, holding, by_inode, primaries, session_in, record_in, bare_tree, tree_of}
+use Rattle.mj_recovery.specs.Tree.{ino_of, link_in, reachable, holding, by_inode, primaries, session_in, record_in, bare_tree, tree_of}
 use Rattle.mj_recovery.proofs.Finished.{true_from}
 use Rattle.mj_recovery.proofs.Merges.{sorted_keys}
 use Rattle.mj_judge.specs.Parts.{dentry_entry, session_entry, done_entry, open_entry, open_place}

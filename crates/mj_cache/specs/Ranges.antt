@@ -1,5 +1,5 @@
 -- What the types of keys and values say of cells: each name is a name, and each number is one of its type.
-use Rattle.std.specs.Prelude.{◌≡◌, ℕ, ◌<◌, ◌^◌, Some, IsTrue}
+use Rattle.std.specs.Prelude.{◌≡◌, ◌<◌, ◌^◌, Some, IsTrue}
 use Rattle.mj_base.specs.Name.{is_name}
 use Rattle.mj_maps.specs.Map.{Map, get}
 use Rattle.mj_cells.specs.declared.cell.CellKey.{CellKey}

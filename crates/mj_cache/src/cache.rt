@@ -78,10 +78,7 @@ impl Cache {
     {
         cells.all_fit();
         let layers = Layers::of_cells(alloc, cells)?;
-        let index = match examine(alloc, rank, &layers) {
-            Ok(index) => index,
-            Err(why) => return Err(why),
-        };
+        let index = examine(alloc, rank, &layers)?;
         Ok(Cache {
             rank,
             layers,

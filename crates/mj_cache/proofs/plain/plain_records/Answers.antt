@@ -1,4 +1,4 @@
-use Rattle.std.proofs.Common.{List, sym, ap, ◌∙◌}
+use Rattle.std.proofs.Common.{List, ap, ◌∙◌}
 use Rattle.std.specs.Prelude.{filter_map}
 use Rattle.mj_recovery.specs.Tree.{by_inode}
 use Rattle.mj_judge.specs.Parts.{Cell}

@@ -1,6 +1,6 @@
 use Rattle.std.proofs.Common.{List, map, sym, ap, ◌∙◌}
 use Rattle.std.specs.Prelude.{filter_map, unwrap_or}
-use Rattle.mj_maps.specs.Map.{entries, picked}
+use Rattle.mj_maps.specs.Map.{picked}
 use Rattle.mj_maps.proofs.MapLaws.{exact_nat, exact_place, exact_pair}
 use Rattle.mj_tree.specs.Lists.{record_entries, link_entries, open_entries, session_entries}
 use Rattle.mj_tables.specs.Layered.{early_cells}

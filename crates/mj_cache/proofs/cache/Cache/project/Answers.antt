@@ -1,8 +1,7 @@
-use Rattle.std.proofs.Common.{◌≡◌, [], ◌∷◌, ◌++◌, List, sym, ap, subst, ◌∙◌}
+use Rattle.std.proofs.Common.{List, sym, ap, subst, ◌∙◌}
 use Rattle.std.specs.List.{AllByRecursion}
-use Rattle.mj_cells.specs.declared.cell.CellWrite.{CellWrite}
 use Rattle.mj_cells.specs.Cell.{WriteFits, AllFit}
-use Rattle.mj_cells.specs.Table.{table_of, overlay, put_all}
+use Rattle.mj_cells.specs.Table.{table_of, overlay}
 use Rattle.mj_cells.proofs.CellMaps.{table_of-put_all}
 use Rattle.mj_tables.specs.declared.group.Group.{Group}
 use Rattle.mj_tables.specs.Layered.{all_writes, early_cells, early_of}
