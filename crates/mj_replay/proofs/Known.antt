@@ -1,10 +1,11 @@
 -- Directories that are the root, stray or given, and those of the lumps of writes.
-use Rattle.std.proofs.Common.{◌≡◌, ◌≢◌, ℕ, ◌+◌, ◌==◌, ◌<◌, ◌≤◌, Bool, true, false, cond, ◌&&◌, ◌||◌, not, List, [], ◌∷◌, ◌++◌, drop, get_or, length, Option, Some, None, refl, sym, ap, subst, ◌∙◌, inl, inr, arith}
+use Rattle.std.proofs.Common.{◌≡◌, ◌≢◌, ℕ, ◌+◌, ◌==◌, ◌<◌, ◌≤◌, Bool, true, false, cond, ◌&&◌, ◌||◌, not, List, [], ◌∷◌, ◌++◌, append-nil, drop, get_or, length, Option, Some, None, refl, sym, ap, subst, ◌∙◌, inl, inr, arith}
 use Rattle.std.specs.Prelude.{nat_lt, nat_le}
 use Rattle.std.specs.List.{filter, list_all, cons_option}
 use Rattle.std.proofs.Math.Bool.{and_assoc, and-true}
 use Rattle.std.proofs.lemmas.Bool.{and_parts, eq-eqb, ne_eqb, lt-ltb, le-leb, lt-leb, ltb-true}
 use Rattle.std.proofs.lemmas.List.{at_drop_more}
+use Rattle.std.proofs.lemmas.Grind.{flat_map-append}
 use Rattle.std.proofs.lemmas.List.Folds.{list_all-append}
 use Rattle.mj_base.specs.ObjectName.{stray_ino, first_ino}
 use Rattle.mj_tree.specs.State.{root}
@@ -106,9 +107,6 @@ write_more rank next ws i w old new all lt at is h =
     ap (λ b. b && lumps_known rank next rest) is ∙ and_assoc old (lumps_known rank next (w ∷ [])) (lumps_known rank next rest)
     ∙ ap (λ b. old && b) (sym (known_both rank next (w ∷ []) rest) ∙ sym (at_drop_more (lumps_known rank next) ws i w lt ∙ ap (λ x. lumps_known rank next (x ∷ rest)) (sym at))) ∙ h
 
-pub event_more : (rank next : ℕ) (events : List LiveEvent) (i : ℕ) (e : LiveEvent) (old new all : Bool) → i < length events → e ≡ get_or events i e → new ≡ (old && lumps_known rank next (writes_of e.event))
-    → (old && lumps_known rank next (journal_writes (drop i events))) ≡ all → (new && lumps_known rank next (journal_writes (drop (i + 1) events))) ≡ all
-event_more rank next events i e old new all lt at is h =
-    let rest = journal_writes (drop (i + 1) events) in
-    ap (λ b. b && lumps_known rank next rest) is ∙ and_assoc old (lumps_known rank next (writes_of e.event)) (lumps_known rank next rest)
-    ∙ ap (λ b. old && b) (sym (known_both rank next (writes_of e.event) rest) ∙ sym (at_drop_more (λ es. lumps_known rank next (journal_writes es)) events i e lt ∙ ap (λ x. lumps_known rank next (journal_writes (x ∷ drop (i + 1) events))) (sym at))) ∙ h
+-- an event behind others
+pub event_behind : (events : List LiveEvent) (e : LiveEvent) → journal_writes (events ++ e ∷ []) ≡ journal_writes events ++ writes_of e.event
+event_behind events e = flat_map-append (λ (x : LiveEvent). writes_of x.event) events (e ∷ []) ∙ ap (λ (ws : List CellWrite). journal_writes events ++ ws) (append-nil (writes_of e.event))

@@ -60,6 +60,15 @@ impl Overlaid {
         Ok(())
     }
 
+    // Writes the cells of an event, and gives the event up.
+    fn take_event(&mut self, alloc: Global, rank: RankNo, e: LiveEvent) -> Result<(), AllocError>
+        requires { IsEvent e.event }
+        ensures cells { OnOk result (table_of self.new.cells ≡ overlay (table_of self.old.cells) (writes_of e.event)) }
+        ensures lumps { OnOk result ((next : ℕ) → none_strange next self.new.lumps ≡ none_strange next self.old.lumps && lumps_known rank next (writes_of e.event)) }
+    {
+        self.put_event(alloc, rank, &e.event)
+    }
+
     /// The next inode, 0 where there is none.
     pub fn next_ino(&self) -> Ino
         ensures { result ≡ unwrap_or (table_of self.now.cells).next 0 }
@@ -71,11 +80,15 @@ impl Overlaid {
     }
 }
 
-/// The cells of a formatted store with what the events write over them.
-pub fn lay_events(alloc: Global, rank: RankNo, events: &[LiveEvent]) -> Result<Overlaid, AllocError>
-    requires { InGrammar events.now }
-    ensures cells { IfOk result (λ x. table_of x.cells ≡ overlay (fresh_table rank) (journal_writes events.now)) }
-    ensures lumps { IfOk result (λ x. (next : ℕ) → none_strange next x.lumps ≡ lumps_known rank next (journal_writes events.now)) }
+/// The cells of a formatted store with what the events write over them. Each event is given up once it is written.
+pub fn lay_events(
+    alloc: Global,
+    rank: RankNo,
+    events: Vec<LiveEvent>,
+) -> Result<Overlaid, AllocError>
+    requires { InGrammar events.items }
+    ensures cells { IfOk result (λ x. table_of x.cells ≡ overlay (fresh_table rank) (journal_writes events.items)) }
+    ensures lumps { IfOk result (λ x. (next : ℕ) → none_strange next x.lumps ≡ lumps_known rank next (journal_writes events.items)) }
 {
     let formatted = new_cells(alloc, rank)?;
     let mut found = Overlaid {
@@ -83,7 +96,7 @@ pub fn lay_events(alloc: Global, rank: RankNo, events: &[LiveEvent]) -> Result<O
         lumps: LumpDirs::new(),
     };
     for e in events {
-        found.put_event(alloc, rank, &e.event)?;
+        found.take_event(alloc, rank, e)?;
     }
     Ok(found)
 }

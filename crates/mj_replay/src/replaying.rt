@@ -72,14 +72,19 @@ fn replay_journal(
     if !is_served(&journal) {
         return Err(refused(Damage::Unbuilt));
     }
-    let found = lay_events(alloc, rank, journal.events.as_slice())?;
+    let LiveJournal {
+        header,
+        events,
+        tail,
+    } = journal;
+    let found = lay_events(alloc, rank, events.into_vec())?;
     if !found.lumps.are_known(found.next_ino()) {
         return Err(refused(Damage::Unbuilt));
     }
     match Cache::new(alloc, found.cells, rank) {
         Ok(cache) => Ok(Replayed {
-            header: journal.header,
-            tail: journal.tail,
+            header,
+            tail,
             cache,
         }),
         Err(CacheRefusal::NotTree(_)) => Err(refused(Damage::Unbuilt)),

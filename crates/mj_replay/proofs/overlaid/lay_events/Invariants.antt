@@ -1,4 +1,4 @@
-use Rattle.std.proofs.Common.{◌≡◌, ℕ, ◌&&◌, drop}
+use Rattle.std.proofs.Common.{◌≡◌, ℕ}
 use Rattle.mj_cells.specs.Table.{table_of, overlay}
 use Rattle.mj_recovery.specs.Journal.{journal_writes}
 use Rattle.mj_delta.specs.Fresh.{fresh_table}
@@ -6,7 +6,6 @@ use Rattle.mj_replay.specs.Lumps.{none_strange, lumps_known}
 use Rattle.mj_replay.proofs.overlaid.lay_events.Given as goal
 
 abbrev pub invariant-loop-e : goal.invariant-loop-e
-invariant-loop-e l = record {
-  cells : overlay (table_of l.found.cells) (journal_writes (drop l.e-index l.events)) ≡ overlay (fresh_table l.rank) (journal_writes l.events);
-  lumps : (next : ℕ) → (none_strange next l.found.lumps && lumps_known l.rank next (journal_writes (drop l.e-index l.events))) ≡ lumps_known l.rank next (journal_writes l.events);
-}
+invariant-loop-e l =
+    (goal.iterator-loop-e).can_next l.e-iterator × (goal.iterator-loop-e).is_finite l.e-iterator × (table_of l.found.cells ≡ overlay (fresh_table l.rank) (journal_writes l.yielded))
+    × ((next : ℕ) → none_strange next l.found.lumps ≡ lumps_known l.rank next (journal_writes l.yielded))
