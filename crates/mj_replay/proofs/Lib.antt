@@ -2,6 +2,7 @@ pub mod Envelope
 pub mod Turns
 pub mod Streams
 pub mod Joined
+pub mod Passed
 pub mod Lives
 pub mod Headers
 pub mod Known

@@ -82,14 +82,8 @@ fn read_entries<S: ObjectStore>(
     'pieces: while here < end {
         let to = end.min(here + PIECE);
         let keep = kept_back(to, end);
-        let bytes = match piece_bytes(alloc, store, rank, layout, here, to) {
-            Ok(bytes) => bytes,
-            Err(why) => return Err(why),
-        };
-        let piece = match read_piece(alloc, &bytes, here, write, keep, &mut events) {
-            Ok(piece) => piece,
-            Err(why) => return Err(why),
-        };
+        let bytes = piece_bytes(alloc, store, rank, layout, here, to)?;
+        let piece = read_piece(alloc, &bytes, here, write, keep, &mut events)?;
         match piece {
             Piece::More(next) => here = next,
             Piece::Tail(tail) => {
@@ -141,7 +135,7 @@ pub fn read_live<S: ObjectStore>(
     if end < header.write {
         return Err(refused(Damage::Hole(end)));
     }
-    let found = match read_entries(
+    let found = read_entries(
         alloc,
         store,
         rank,
@@ -149,9 +143,6 @@ pub fn read_live<S: ObjectStore>(
         header.expire,
         end,
         header.write,
-    ) {
-        Ok(found) => found,
-        Err(why) => return Err(why),
-    };
+    )?;
     judge_first(found)
 }

@@ -34,14 +34,8 @@ pub fn read_journal<S: ObjectStore>(
     ensures cause { IfErr result (RefusesJournal (S.faults store.old) (S.faults store.new)) }
     ensures later { S.faults store.old ≤ S.faults store.new }
 {
-    let header = match read_header(alloc, store, rank) {
-        Ok(header) => header,
-        Err(why) => return Err(why),
-    };
-    let found = match read_live(alloc, store, rank, &header) {
-        Ok(found) => found,
-        Err(why) => return Err(why),
-    };
+    let header = read_header(alloc, store, rank)?;
+    let found = read_live(alloc, store, rank, &header)?;
     Ok(LiveJournal {
         header,
         events: found.events,

@@ -87,10 +87,7 @@ pub fn read_piece(
     let mut rest = bytes;
     let mut here = at;
     'entries: while keep <= rest.len() {
-        let next = match read_next(alloc, rest, here, write) {
-            Ok(next) => next,
-            Err(why) => return Err(why),
-        };
+        let next = read_next(alloc, rest, here, write)?;
         match next {
             Some((event, ends)) => {
                 events.push(event)?;

@@ -45,10 +45,7 @@ pub fn replay<S: ObjectStore>(
     ensures cause { IfErr result (RefusesJournal (S.faults store.old) (S.faults store.new)) }
     ensures later { S.faults store.old ≤ S.faults store.new }
 {
-    let journal = match read_journal(alloc, store, rank) {
-        Ok(journal) => journal,
-        Err(why) => return Err(why),
-    };
+    let journal = read_journal(alloc, store, rank)?;
     replay_journal(alloc, rank, journal)
 }
 
