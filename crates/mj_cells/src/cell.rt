@@ -6,7 +6,7 @@ use mj_base::{ClientId, Ino, InodeRecord, Kind, Name, Tid};
 use std::alloc::{AllocError, Global};
 
 /// The key of a cell. Keys go by the variants as listed here, and then by their fields, names by bytes.
-#[derive(Debug, Drop, PartialEq, Eq, PartialOrd, Ord)]
+#[derive(Debug, Drop, PartialEq, Eq, PartialOrd, Ord, Hash)]
 pub enum CellKey {
     /// A name in a directory.
     Dentry(Ino, Name),
