@@ -1,5 +1,5 @@
 -- The table that cells by key make: what it shows, and what a write of a cell does to it.
-use Rattle.std.proofs.Common.{◌≡◌, false, cond, T, List, [], ◌∷◌, map, Option, Some, None, refl, sym, ap, subst, ◌∙◌, inl, inr}
+use Rattle.std.proofs.Common.{◌≡◌, false, cond, T, List, [], ◌∷◌, ◌++◌, map, Option, Some, None, refl, sym, ap, subst, ◌∙◌, inl, inr}
 use Rattle.std.specs.Prelude.{unwrap_or}
 use Rattle.std.specs.declared.cmp.Ordering.{Ordering}
 use Rattle.std.specs.declared.cmp.Ordering.TheVariants.{Less, Equal, Greater}
@@ -90,3 +90,7 @@ table_of-remove m k = same_table _ _ (λ q.
 pub table_of-put_all : (m : Map key_cmp CellValue) (ws : List CellWrite) → table_of (put_all m ws) ≡ overlay (table_of m) ws
 table_of-put_all m [] = refl
 table_of-put_all m (w ∷ ws) = table_of-put_all (insert m w.key w.value) ws ∙ ap (λ t. overlay t ws) (table_of-insert m w.key w.value)
+
+pub put_all-push : (m : Map key_cmp CellValue) (ws : List CellWrite) (w : CellWrite) → put_all m (ws ++ w ∷ []) ≡ insert (put_all m ws) w.key w.value
+put_all-push m [] w = refl
+put_all-push m (x ∷ ws) w = put_all-push (insert m x.key x.value) ws w

@@ -1,9 +1,9 @@
--- A tree's entries against the finite map that they make.
+-- The entries of a tree or a hash map against the finite map that they make.
 use Rattle.std.proofs.Common.{◌≡◌, Bool, true, false, ◌&&◌, cond, T, List, [], ◌∷◌, map, Option, Some, None, refl, sym, ap, subst, ◌∙◌}
 use Rattle.std.specs.declared.cmp.Ordering.{Ordering}
 use Rattle.std.specs.declared.cmp.Ordering.TheVariants.{Less}
-use Rattle.std.specs.Ordering.{eq_by_cmp, is_lt}
-use Rattle.std.specs.Cmp.{eq_by_cmp_equiv}
+use Rattle.std.specs.Ordering.{eq_by_cmp, is_lt, is_eq}
+use Rattle.std.specs.Cmp.{eq_by_cmp_equiv, unsigned_ties}
 use Rattle.std.specs.List.{AllByRecursion, filter}
 use Rattle.std.specs.List.Sorted.{IsStrictlySortedBy}
 use Rattle.std.specs.BTreeMap.{is_at}
@@ -13,9 +13,12 @@ use Rattle.std.specs.declared.collections.Bound.TheVariants.{Unbounded}
 use Rattle.std.specs.Map.{lookup}
 use Rattle.std.specs.FinMap.Entries.{find, below_all, is_sorted}
 use Rattle.mj_maps.specs.Map.{get, insert, remove, entries, from_entries, both_true}
+use Rattle.mj_maps.proofs.Kept.{place_ties, pair_ties}
 use Rattle.mj_maps.proofs.MapLaws.{get-from_entries, get-insert, get-remove, same_map, entries-from_entries}
 use Rattle.mj_cells.specs.contracts.cell.CellKeyOrd.TheImpl.{ghosts}
+use Rattle.mj_cells.specs.contracts.cell.CellKeyPartialEq.TheImpl as equality
 use Rattle.mj_cells.specs.declared.cell.CellKey.{CellKey}
+use Rattle.mj_cells.specs.declared.cell.CellKey.TheVariants.{Dentry, DirHead, NextIno, Session, Done, OpenOf}
 use Rattle.mj_cells.specs.declared.cell.CellValue.{CellValue}
 use Rattle.mj_cells.specs.Cell.{key_cmp}
 use Rattle.mj_cells.specs.Next.{is_above, bound_above, first_of, next_cell}
@@ -69,6 +72,20 @@ module _ {X : Type 0} where
   -- and are those of its map
   pub entries_kept : (es : List (CellKey × X)) → IsStrictlySortedBy tree_cmp (map (λ e. e.0) es) → entries (from_entries {R = key_cmp} es) ≡ es
   entries_kept es h = entries-from_entries exact_key es (tree_sorted es h)
+
+-- ---- a hash map's keys are told apart as a tree's are
+
+abbrev pub hash_eq : CellKey → CellKey → Bool
+hash_eq = equality.ghosts.eq
+
+pub hash_is : (a b : CellKey) → hash_eq a b ≡ eq_by_cmp key_cmp a b
+hash_is (Dentry d n) (Dentry e m) = place_ties (d, n) (e, m)
+hash_is (DirHead d) (DirHead e) = unsigned_ties d e ∙ ap is_eq (derived_is (DirHead d) (DirHead e))
+hash_is NextIno NextIno = refl
+hash_is (Session c) (Session d) = unsigned_ties c d ∙ ap is_eq (derived_is (Session c) (Session d))
+hash_is (Done c t) (Done d u) = pair_ties (c, t) (d, u) ∙ ap is_eq (derived_is (Done c t) (Done d u))
+hash_is (OpenOf c i) (OpenOf d j) = pair_ties (c, i) (d, j) ∙ ap is_eq (derived_is (OpenOf c i) (OpenOf d j))
+hash_is _ _ = refl
 
 -- ---- the least cell above a key
 

@@ -76,15 +76,3 @@ impl CellValue {
         }
     }
 }
-
-impl CellWrite {
-    /// The same write again.
-    pub fn copy(&self, alloc: Global) -> Result<CellWrite, AllocError>
-        ensures { IfOk result (λ same. same ≡ self.now) }
-    {
-        Ok(CellWrite {
-            key: self.key.copy(alloc)?,
-            value: self.value.copy(alloc)?,
-        })
-    }
-}

@@ -5,7 +5,7 @@ ghost use Rattle.std.specs.FinMap.Entries.{is_sorted};
 ghost use Rattle.mj_maps.specs.Map.{insert};
 ghost use Rattle.mj_cells.specs.Cell.{key_cmp};
 ghost use Rattle.mj_cells.specs.Table.{as_write, put_all};
-ghost use Rattle.mj_cells.specs.Undo.{cells};
+ghost use Rattle.mj_cells.specs.Table.{cells};
 
 use crate::cell::{CellKey, CellValue};
 use std::alloc::{AllocError, Global};

@@ -1,17 +1,14 @@
 //! Tables of cells.
 
 ghost use Rattle.std.specs.Prelude.{◌≡◌, IfOk, OnOk, OnErr};
-ghost use Rattle.std.specs.List.{AllByRecursion};
 ghost use Rattle.std.specs.Option.{option_copied, option_map};
 ghost use Rattle.std.specs.Bound.{bound_map};
 ghost use Rattle.mj_maps.specs.Map.{get, insert, remove, empty};
 ghost use Rattle.mj_cells.specs.Cell.{Fits, WriteFits, AllFit};
-ghost use Rattle.mj_cells.specs.Table.{put_all};
 ghost use Rattle.mj_cells.specs.Next.{bound_above, next_cell, cell_of};
 
 use crate::cell::{CellKey, CellValue, CellWrite};
 use crate::copying::copy_cells;
-use crate::undo::{undo, write_all};
 use std::alloc::{AllocError, Global};
 use std::collections::BTreeMap;
 use std::marker::Model;
@@ -94,20 +91,6 @@ impl CellTable {
         ensures { self.new ≡ remove self.old key.now }
     {
         let _ = self.kept.remove(key);
-    }
-
-    /// Writes cells in order, a later one over an earlier of its key. After an error the table is as before.
-    pub fn overlay(&mut self, alloc: Global, ws: Vec<CellWrite>) -> Result<(), AllocError>
-        requires { AllByRecursion WriteFits ws.items }
-        ensures ok { OnOk result (self.new ≡ put_all self.old ws.items) }
-        ensures err { OnErr result (self.new ≡ self.old) }
-    {
-        let mut before = Vec::new(alloc);
-        let done = write_all(alloc, &mut self.kept, ws, &mut before);
-        if done.is_err() {
-            undo(&mut self.kept, before);
-        }
-        done
     }
 
     /// The cell with the least key above `after`, or the least of all.

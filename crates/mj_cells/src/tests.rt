@@ -118,20 +118,11 @@ fn the_last_write_of_a_key_stands(rt: HostRuntime) -> Result<(), Fail> {
     let alloc = rt.alloc();
     let mut table = CellTable::new(alloc);
     fill(alloc, &mut table)?;
-    let mut ws = Vec::new(alloc);
-    ws.push(CellWrite {
-        key: CellKey::NextIno,
-        value: CellValue::Number(40),
-    })?;
-    ws.push(CellWrite {
-        key: CellKey::DirHead(Ino(3)),
-        value: CellValue::Number(8),
-    })?;
-    ws.push(CellWrite {
-        key: CellKey::NextIno,
-        value: CellValue::Number(41),
-    })?;
-    table.overlay(alloc, ws)?;
+    let head = CellKey::DirHead(Ino(3));
+    for (key, n) in [(CellKey::NextIno, 40), (head, 8), (CellKey::NextIno, 41)] {
+        let value = CellValue::Number(n);
+        table.put(alloc, CellWrite { key, value })?;
+    }
     table.drop_key(&CellKey::Session(ClientId(4)));
     assert_eq!(rt; table.get(&CellKey::NextIno).map(told), Some(41));
     assert_eq!(rt; table.get(&CellKey::DirHead(Ino(3))).map(told), Some(8));

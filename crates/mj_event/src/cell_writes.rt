@@ -18,12 +18,15 @@ use mj_cells::{CellKey, CellValue, CellWrite};
 use mj_meta::{DirLump, FullBit, HeadBit, NullBit, RemoteBit};
 use std::alloc::{AllocError, Global};
 
+/// Room for the cells of most events, which write at most one lump's dentries beside a reply, and need no more.
+const MOST_WRITE: usize = 8;
+
 /// The cells that an event writes, in order. Those of an event in the grammar fit their keys.
 pub fn writes(alloc: Global, event: &Event) -> Result<Vec<CellWrite>, AllocError>
     ensures writes { IfOk result (λ ws. ws.items ≡ writes_of event.now) }
     ensures fit { IsEvent event.now → IfOk result (λ ws. AllByRecursion WriteFits ws.items) }
 {
-    let mut ws = Vec::new(alloc);
+    let mut ws = Vec::with_capacity(alloc, MOST_WRITE)?;
     push_event(alloc, event, &mut ws)?;
     Ok(ws)
 }

@@ -11,12 +11,15 @@ use mj_base::{Ino, Tid, put_u8, put_u32, put_u64};
 use mj_meta::append_blob;
 use std::alloc::{AllocError, Global};
 
+/// Room for the payload of most events.
+const MOST_TAKE: usize = 256;
+
 /// The payload of an event.
 pub fn event_write(alloc: Global, event: &Event) -> Result<Vec<u8>, AllocError>
     requires { IsEvent event.now }
     ensures { IfOk result (λ payload. payload.items ≡ event_bytes event.now) }
 {
-    let mut payload = Vec::new(alloc);
+    let mut payload = Vec::with_capacity(alloc, MOST_TAKE)?;
     append_event(event, &mut payload)?;
     Ok(payload)
 }

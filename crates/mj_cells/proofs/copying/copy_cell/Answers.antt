@@ -1,6 +1,6 @@
 use Rattle.std.proofs.Common.{◌∙◌}
 use Rattle.mj_maps.specs.Map.{insert}
-use Rattle.mj_cells.specs.Undo.{cells}
+use Rattle.mj_cells.specs.Table.{cells}
 use Rattle.mj_cells.proofs.Kept.{one_given}
 use Rattle.mj_cells.proofs.copying.copy_cell.Goals as goal
 

@@ -1,6 +1,6 @@
 use Rattle.std.proofs.Common.{◌≡◌, map}
 use Rattle.mj_cells.specs.Table.{as_write, put_all}
-use Rattle.mj_cells.specs.Undo.{cells}
+use Rattle.mj_cells.specs.Table.{cells}
 use Rattle.mj_cells.proofs.copying.copy_cells.Given as goal
 
 abbrev pub invariant-loop-key : goal.invariant-loop-key

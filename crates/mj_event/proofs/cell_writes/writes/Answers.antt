@@ -8,4 +8,4 @@ use Rattle.mj_event.proofs.cell_writes.writes.Goals as goal
 
 pub returns-clause-fit : goal.returns-clause-fit
 returns-clause-fit c = λ fits.
-    subst (λ (ws : List CellWrite). AllByRecursion WriteFits ws) (sym (c.in_ok-push_event.ensures ∙ ap (λ (ws : List CellWrite). ws ++ writes_of c.args.event.now) c.new-ws.ensures.items)) (writes_fit c.args.event.now fits)
+    subst (λ (ws : List CellWrite). AllByRecursion WriteFits ws) (sym (c.in_ok-push_event.ensures ∙ ap (λ (ws : List CellWrite). ws ++ writes_of c.args.event.now) c.in_ok-ws.ensures.items)) (writes_fit c.args.event.now fits)

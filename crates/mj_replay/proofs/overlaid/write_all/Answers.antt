@@ -2,7 +2,7 @@ use Rattle.std.proofs.Common.{sym, ap, ◌∙◌}
 use Rattle.mj_maps.specs.Map.{Map, insert}
 use Rattle.mj_cells.specs.declared.cell.CellValue.{CellValue}
 use Rattle.mj_cells.specs.Cell.{key_cmp}
-use Rattle.mj_cells.proofs.Undoing.{put_all-push}
+use Rattle.mj_cells.proofs.CellMaps.{put_all-push}
 use Rattle.mj_replay.proofs.overlaid.write_all.Goals as goal
 
 pub loop-w-preserved : goal.loop-w-preserved
