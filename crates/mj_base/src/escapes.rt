@@ -97,7 +97,7 @@ pub fn unescape(alloc: Global, text: &[u8]) -> Result<Vec<u8>, EscapeRefusal>
     ensures bytes { IfOk result (λ bytes. unescaped text.now ≡ Ok bytes.items) }
     ensures refused { IfErr result (λ why. IsEscapeRefusal why text.now) }
 {
-    let mut bytes = Vec::new(alloc);
+    let mut bytes = Vec::with_capacity(alloc, text.len())?;
     let mut rest = text;
     while !rest.is_empty() {
         let Some((byte, after)) = first_byte(rest) else {

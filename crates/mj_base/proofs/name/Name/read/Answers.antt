@@ -7,7 +7,7 @@ use Rattle.mj_base.proofs.name.Name.read.Goals.{In_ok-from_slice}
 named : (c : In_ok-from_slice) → is_name c.in_ok-from_slice.field-0.items ≡ true
 named c =
     let of_bytes = is_name-from_tests c.args.bytes.now (λ i. omega (arith, c.type_inv.bytes i)) (sym c.is_empty.ensures ∙ c.if-is_empty.false) (omega arith) (sym c.in_default.ensures) (sym c.is_dots.ensures ∙ c.if-is_dots.false) in
-    rw c.in_ok-from_slice.ensures.items of_bytes
+    rw c.in_ok-from_slice.ensures.ok of_bytes
 
 pub invariant_of-result : goal.invariant_of-result
 invariant_of-result c = named c
