@@ -1,7 +1,8 @@
 pub mod SlotMaps
 pub mod Writes
 pub mod Laid
-pub mod SlotTrees
+pub mod SlotHashes
+pub mod EarlyViews
 pub mod Moved
 pub mod KeySets
 pub mod NextThere

@@ -1,7 +1,7 @@
 -- What the slots of keys hold, as maps.
 use Rattle.std.specs.Prelude.{◌≡◌, ℕ, Bool, true, false, nat_le, List, [], ◌∷◌, Option, Some, None, option_map, option_and_then, if◌then◌else◌}
 use Rattle.std.specs.Option.{option_or}
-use Rattle.std.specs.BTreeMap.{BTreeMap}
+use Rattle.std.specs.HashMap.{HashMap}
 use Rattle.mj_maps.specs.Map.{Map, Set, get, insert, remove, contains_key, collect, from_entries}
 use Rattle.mj_cells.specs.declared.cell.CellKey.{CellKey}
 use Rattle.mj_cells.specs.declared.cell.CellValue.{CellValue}
@@ -16,7 +16,7 @@ use Rattle.mj_tables.specs.Layered.{is_there, EndsRise}
 abbrev pub Slots : Type 0
 Slots = Map key_cmp Slot
 
-abbrev pub slots_of : BTreeMap CellKey Slot → Slots
+abbrev pub slots_of : {S : Type 0} → HashMap CellKey Slot S → Slots
 slots_of m = from_entries m.entries
 
 -- ---- what a slot holds

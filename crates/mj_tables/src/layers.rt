@@ -3,11 +3,13 @@
 ghost use Rattle.std.specs.Prelude.{◌≡◌, ◌<◌, [], ◌∷◌, ◌++◌, map, IfOk, OnOk, OnErr, option_map};
 ghost use Rattle.std.specs.Option.{option_copied};
 ghost use Rattle.std.specs.Bound.{bound_map};
+ghost use Rattle.std.specs.List.Sorted.{IsPermutation};
 ghost use Rattle.mj_maps.specs.Map.{get, entries};
 ghost use Rattle.mj_cells.specs.declared.cell.CellWrite.{CellWrite};
 ghost use Rattle.mj_cells.specs.Next.{cell_of, bound_above};
 ghost use Rattle.mj_cells.specs.Table.{put_all};
 ghost use Rattle.mj_tables.specs.Layered.{all_writes, writes_key, early_cells, next_there, EndBelow, HasRoom, ended, unended};
+ghost use Rattle.mj_tables.specs.Slots.{slots_of, early_slots};
 
 use crate::group::Group;
 use crate::listing::{keys_there, there_at};
@@ -16,17 +18,18 @@ use crate::safe_cells::SafeCells;
 use crate::settling::{project_group, settle_ended};
 use crate::slot::Slot;
 use mj_base::Items;
-use mj_cells::{CellKey, CellValue, CellView, CellWrite};
+use mj_cells::{CellKey, CellValue, CellView, CellWrite, compare};
 use std::alloc::{AllocError, Global};
-use std::collections::{BTreeMap, BTreeSet, VecDeque};
+use std::collections::{BTreeSet, HashMap, VecDeque};
 use std::marker::Model;
 use std::ops::Bound;
 
 /// Cells by key: the safe values, and over them the writes of groups that are not safe yet.
 #[derive(Drop)]
 pub struct Layers {
-    slots: BTreeMap<CellKey, Slot>,
-    // The keys whose early values are there, so that `next_there` does not step over what was removed.
+    // A hash map, since a look-up in it does not compare names along a tree.
+    slots: HashMap<CellKey, Slot>,
+    // The keys whose early values are there, in order, so that `next_there` does not step over what was removed.
     // It steps only over room that a `reserve` made and no `project` took.
     there: BTreeSet<CellKey>,
     groups: VecDeque<Group>,
@@ -107,12 +110,8 @@ impl Layers {
     pub fn cells(&self, alloc: Global) -> Result<Vec<CellView<'_>>, AllocError>
         ensures { IfOk result (λ v. map cell_of v.items ≡ entries (early_cells self.now)) }
     {
-        let mut found = Vec::new(alloc);
-        for (key, slot) in self.slots.iter() {
-            if let Some(value) = slot.early() {
-                found.push(CellView { key, value })?;
-            }
-        }
+        let mut found = early_views(alloc, &self.slots)?;
+        found.sort_unstable_by(|a, b| compare(a.key, b.key));
         Ok(found)
     }
 
@@ -163,6 +162,22 @@ fn start_above(after: Option<&CellKey>) -> Bound<&CellKey>
         Some(key) => Bound::Excluded(key),
         None => Bound::Unbounded,
     }
+}
+
+// The early cells of slots, in no order.
+fn early_views(
+    alloc: Global,
+    slots: &HashMap<CellKey, Slot>,
+) -> Result<Vec<CellView<'_>>, AllocError>
+    ensures { IfOk result (λ v. IsPermutation (entries (early_slots (slots_of slots.now))) (map cell_of v.items)) }
+{
+    let mut found = Vec::new(alloc);
+    for (key, slot) in slots.iter() {
+        if let Some(value) = slot.early() {
+            found.push(CellView { key, value })?;
+        }
+    }
+    Ok(found)
 }
 
 // The values of the writes again.

@@ -8,10 +8,10 @@ ghost use Rattle.mj_tables.specs.Listed.{there_at, AreThere, Adds, AreLast, Keep
 use crate::slot::{Slot, is_there};
 use mj_cells::{CellKey, CellValue, CellWrite};
 use std::alloc::{AllocError, Global};
-use std::collections::{BTreeMap, BTreeSet};
+use std::collections::{BTreeSet, HashMap};
 
 /// The early value of a key, where it is neither gone nor null.
-pub fn there_at<'a>(slots: &'a BTreeMap<CellKey, Slot>, key: &CellKey) -> Option<&'a CellValue>
+pub fn there_at<'a>(slots: &'a HashMap<CellKey, Slot>, key: &CellKey) -> Option<&'a CellValue>
     ensures { option_copied result ≡ there_at (slots_of slots.now) key.now }
 {
     match slots.get(key) {
@@ -20,10 +20,10 @@ pub fn there_at<'a>(slots: &'a BTreeMap<CellKey, Slot>, key: &CellKey) -> Option
     }
 }
 
-/// The keys that are there. They come in order, so that the set is made at once.
+/// The keys that are there. They come in no order, and the set that is made of them at once puts them in order.
 pub fn keys_there(
     alloc: Global,
-    slots: &BTreeMap<CellKey, Slot>,
+    slots: &HashMap<CellKey, Slot>,
 ) -> Result<BTreeSet<CellKey>, AllocError>
     ensures { IfOk result (λ there. AreThere (slots_of slots.now) there) }
 {
@@ -54,7 +54,7 @@ pub fn add_key(
 }
 
 // Takes the key out, unless it is there.
-fn drop_absent_key(slots: &BTreeMap<CellKey, Slot>, there: &mut BTreeSet<CellKey>, key: &CellKey)
+fn drop_absent_key(slots: &HashMap<CellKey, Slot>, there: &mut BTreeSet<CellKey>, key: &CellKey)
     ensures { Keeps (slots_of slots.now) there.old key.now there.new }
 {
     if there_at(slots, key).is_none() {
@@ -63,7 +63,7 @@ fn drop_absent_key(slots: &BTreeMap<CellKey, Slot>, there: &mut BTreeSet<CellKey
 }
 
 /// Takes the keys of these writes out that are not there. A key whose last write is there stays, so a write that is there needs no look-up.
-pub fn drop_absent(slots: &BTreeMap<CellKey, Slot>, there: &mut BTreeSet<CellKey>, ws: &[CellWrite])
+pub fn drop_absent(slots: &HashMap<CellKey, Slot>, there: &mut BTreeSet<CellKey>, ws: &[CellWrite])
     requires { AreLast (slots_of slots.now) ws.now }
     ensures { KeepsThere (slots_of slots.now) there.old ws.now there.new }
 {

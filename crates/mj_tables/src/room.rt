@@ -9,12 +9,12 @@ use crate::listing::add_key;
 use crate::slot::Slot;
 use mj_cells::{CellKey, CellWrite};
 use std::alloc::{AllocError, Global};
-use std::collections::{BTreeMap, BTreeSet};
+use std::collections::{BTreeSet, HashMap};
 
 // Gives a key that has no slot an empty one. The set comes first, so that on an error the slots stay.
 fn add_room(
     alloc: Global,
-    slots: &mut BTreeMap<CellKey, Slot>,
+    slots: &mut HashMap<CellKey, Slot>,
     there: &mut BTreeSet<CellKey>,
     key: &CellKey,
 ) -> Result<(), AllocError>
@@ -37,7 +37,7 @@ fn add_room(
 // Makes room for a key, with one look-up where its value is there. No key is copied where nothing is made.
 fn make_room(
     alloc: Global,
-    slots: &mut BTreeMap<CellKey, Slot>,
+    slots: &mut HashMap<CellKey, Slot>,
     there: &mut BTreeSet<CellKey>,
     key: &CellKey,
 ) -> Result<(), AllocError>
@@ -61,7 +61,7 @@ fn make_room(
 /// Makes room for the keys of these writes. Nothing that is held changes.
 pub fn make_all_room(
     alloc: Global,
-    slots: &mut BTreeMap<CellKey, Slot>,
+    slots: &mut HashMap<CellKey, Slot>,
     there: &mut BTreeSet<CellKey>,
     ws: &[CellWrite],
 ) -> Result<(), AllocError>

@@ -10,13 +10,13 @@ use crate::moving::slots_from;
 use crate::slot::Slot;
 use mj_cells::{CellKey, CellTable, CellValue, CellWrite};
 use std::alloc::{AllocError, Global};
-use std::collections::BTreeMap;
+use std::collections::HashMap;
 use std::marker::Model;
 
 /// Cells by key, held as layers hold them. Each key has the value that was last written to it.
 #[derive(Drop)]
 pub struct SafeCells {
-    slots: BTreeMap<CellKey, Slot>,
+    slots: HashMap<CellKey, Slot>,
 }
 
 impl Model for SafeCells {
@@ -70,6 +70,11 @@ impl SafeCells {
         ensures ok { OnOk result (self.new ≡ insert self.old w.key w.value) }
         ensures err { OnErr result (self.new ≡ self.old) }
     {
+        // A key that has a slot takes the value in place, so that no slot is made and moved.
+        if let Some(slot) = self.slots.get_mut(&w.key) {
+            slot.safe = Some(w.value);
+            return Ok(());
+        }
         let slot = Slot {
             safe: Some(w.value),
             ahead: None,
@@ -78,7 +83,7 @@ impl SafeCells {
         Ok(())
     }
 
-    pub(crate) fn into_slots(self) -> BTreeMap<CellKey, Slot>
+    pub(crate) fn into_slots(self) -> HashMap<CellKey, Slot>
         ensures safe { safe_cells (slots_of result) ≡ self }
         ensures laid { AreLaid (slots_of result) [] }
     {

@@ -11,11 +11,11 @@ use crate::group::Group;
 use crate::listing::drop_absent;
 use crate::slot::{Slot, project, settle};
 use mj_cells::{CellKey, CellValue, CellWrite};
-use std::collections::{BTreeMap, BTreeSet, VecDeque};
+use std::collections::{BTreeSet, HashMap, VecDeque};
 
 // Puts the values of a group over what its keys hold.
 fn project_all(
-    slots: &mut BTreeMap<CellKey, Slot>,
+    slots: &mut HashMap<CellKey, Slot>,
     ws: &[CellWrite],
     values: Vec<CellValue>,
     ends: u64,
@@ -33,7 +33,7 @@ fn project_all(
 
 /// Puts a group over what its keys hold, whose set then has those of them that are there. `values` are those of its writes again.
 pub fn project_group(
-    slots: &mut BTreeMap<CellKey, Slot>,
+    slots: &mut HashMap<CellKey, Slot>,
     there: &mut BTreeSet<CellKey>,
     ws: &[CellWrite],
     values: Vec<CellValue>,
@@ -49,7 +49,7 @@ pub fn project_group(
 }
 
 /// Makes the values of a group the safe ones.
-pub fn settle_all(slots: &mut BTreeMap<CellKey, Slot>, ws: Vec<CellWrite>, ends: u64)
+pub fn settle_all(slots: &mut HashMap<CellKey, Slot>, ws: Vec<CellWrite>, ends: u64)
     ensures { slots_of slots.new ≡ all_settled ends (slots_of slots.old) ws.items }
 {
     for w in ws {
@@ -70,7 +70,7 @@ fn pop_ended(groups: &mut VecDeque<Group>, upto: u64) -> Option<Group>
 }
 
 /// Makes the groups that end at or below the position safe.
-pub fn settle_ended(slots: &mut BTreeMap<CellKey, Slot>, groups: &mut VecDeque<Group>, upto: u64)
+pub fn settle_ended(slots: &mut HashMap<CellKey, Slot>, groups: &mut VecDeque<Group>, upto: u64)
     requires { AreLaid (slots_of slots.old) groups.old.items }
     ensures groups { groups.new.items ≡ unended upto groups.old.items }
     ensures safe { safe_cells (slots_of slots.new) ≡ put_all (safe_cells (slots_of slots.old)) (all_writes (ended upto groups.old.items)) }

@@ -6,7 +6,7 @@ ghost use Rattle.mj_tables.specs.Layered.{is_there};
 ghost use Rattle.mj_tables.specs.Slots.{early_in, there_in, slots_of, altered, projecting, settling, is_last};
 
 use mj_cells::{CellKey, CellValue};
-use std::collections::BTreeMap;
+use std::collections::HashMap;
 
 /// The last value that is not safe yet, and where the last group that writes the key ends.
 #[derive(Drop)]
@@ -56,7 +56,7 @@ pub fn is_there(value: &CellValue) -> bool
 }
 
 /// Puts a value over what a key with room holds.
-pub fn project(slots: &mut BTreeMap<CellKey, Slot>, key: &CellKey, value: CellValue, ends: u64)
+pub fn project(slots: &mut HashMap<CellKey, Slot>, key: &CellKey, value: CellValue, ends: u64)
     ensures { slots_of slots.new ≡ altered (slots_of slots.old) key.now (projecting value ends) }
 {
     if let Some(slot) = slots.get_mut(key) {
@@ -65,7 +65,7 @@ pub fn project(slots: &mut BTreeMap<CellKey, Slot>, key: &CellKey, value: CellVa
 }
 
 /// Makes a value of a group that ends here the safe one, where the key has room.
-pub fn settle(slots: &mut BTreeMap<CellKey, Slot>, key: &CellKey, value: CellValue, ends: u64)
+pub fn settle(slots: &mut HashMap<CellKey, Slot>, key: &CellKey, value: CellValue, ends: u64)
     ensures { slots_of slots.new ≡ altered (slots_of slots.old) key.now (settling value ends) }
 {
     if let Some(slot) = slots.get_mut(key) {

@@ -6,7 +6,7 @@ use Rattle.std.proofs.lemmas.Result.{IfOk-weaker}
 use Rattle.mj_cells.specs.declared.cell.CellKey.{CellKey}
 use Rattle.mj_cells.proofs.Kept.{tree_cmp}
 use Rattle.mj_tables.specs.Listed.{Adds}
-use Rattle.mj_tables.proofs.SlotTrees.{SlotEntries}
+use Rattle.mj_tables.proofs.SlotHashes.{SlotEntries}
 use Rattle.mj_tables.proofs.Writes.{some_map}
 use Rattle.mj_tables.proofs.KeySets.{one_pushed, made_of}
 use Rattle.mj_tables.proofs.Found.{AreFound, found_start, found_there, found_absent, found_end}

@@ -1,7 +1,7 @@
 use Rattle.std.proofs.Common.{sym, ap, ◌∙◌}
 use Rattle.std.specs.Option.{option_and_then}
 use Rattle.mj_tables.specs.Slots.{there_in}
-use Rattle.mj_tables.proofs.SlotTrees.{found_slot}
+use Rattle.mj_tables.proofs.SlotHashes.{found_slot}
 use Rattle.mj_tables.proofs.listing.there_at.Goals as goal
 
 pub returns-in-Some : goal.returns-in-Some

@@ -4,7 +4,7 @@ use Rattle.std.specs.Option.{option_and_then}
 use Rattle.mj_tables.specs.Slots.{Slots, slots_of, there_in}
 use Rattle.mj_tables.proofs.Writes.{some_map}
 use Rattle.mj_tables.proofs.SlotMaps.{room_already, room_added}
-use Rattle.mj_tables.proofs.SlotTrees.{found_slot}
+use Rattle.mj_tables.proofs.SlotHashes.{found_slot}
 use Rattle.mj_tables.proofs.KeySets.{added_already}
 use Rattle.mj_tables.proofs.room.make_room.Goals as goal
 

@@ -1,11 +1,10 @@
 use Rattle.std.proofs.Common.{◌≡◌, ℕ, true, false, cond, Option, Some, None, sym, ap, ◌∙◌, refl}
 use Rattle.std.specs.Prelude.{is_some}
 use Rattle.mj_maps.specs.Map.{insert}
-use Rattle.mj_cells.proofs.Kept.{one_given}
 use Rattle.mj_tables.specs.declared.slot.Ahead.{Ahead}
 use Rattle.mj_tables.specs.declared.slot.Slot.{Slot}
 use Rattle.mj_tables.specs.Slots.{slots_of, settling, ahead_after, is_last}
-use Rattle.mj_tables.proofs.SlotTrees.{found_slot, altered_is}
+use Rattle.mj_tables.proofs.SlotHashes.{one_hashed, found_slot, altered_is}
 use Rattle.mj_tables.proofs.slot.settle.Goals as goal
 
 last_goes : (ends : ℕ) (o : Option Ahead) → is_last ends o ≡ true → ahead_after ends o ≡ None
@@ -22,7 +21,7 @@ returns-then-is_last c =
     let wrote = (c.get_mut.follows.holds new).3 (ap is_some (sym c.in-Some.ensures.value)) in
     let is : ◌≡◌ {A = Slot} new (settling c.args.value c.args.ends c.in-Some.slot.now) =
     λ i. record { safe = Some c.args.value; ahead = sym (last_goes c.args.ends c.in-Some.slot.now.ahead (sym c.is_last-is_last.ensures ∙ c.if-is_last.true)) i } in
-    one_given c.args.slots.now.entries (c.get_mut.follows.lender new).entries c.args.key.now new wrote.0
+    one_hashed c.args.slots.now.entries (c.get_mut.follows.lender new).entries c.args.key.now new wrote.0
     ∙ ap (insert (slots_of c.args.slots.now) c.args.key.now) is
     ∙ sym (altered_is (slots_of c.args.slots.now) c.args.key.now (settling c.args.value c.args.ends) (Some c.in-Some.slot.now) (found_slot c.args.slots.now.entries c.args.key.now _ c.in-Some.ensures.value))
 
@@ -32,7 +31,7 @@ returns-else-is_last c =
     let wrote = (c.get_mut.follows.holds new).3 (ap is_some (sym c.in-Some.ensures.value)) in
     let is : ◌≡◌ {A = Slot} new (settling c.args.value c.args.ends c.in-Some.slot.now) =
     λ i. record { safe = Some c.args.value; ahead = sym (later_stays c.args.ends c.in-Some.slot.now.ahead (sym c.is_last-is_last.ensures ∙ c.if-is_last.false)) i } in
-    one_given c.args.slots.now.entries (c.get_mut.follows.lender new).entries c.args.key.now new wrote.0
+    one_hashed c.args.slots.now.entries (c.get_mut.follows.lender new).entries c.args.key.now new wrote.0
     ∙ ap (insert (slots_of c.args.slots.now) c.args.key.now) is
     ∙ sym (altered_is (slots_of c.args.slots.now) c.args.key.now (settling c.args.value c.args.ends) (Some c.in-Some.slot.now) (found_slot c.args.slots.now.entries c.args.key.now _ c.in-Some.ensures.value))
 

@@ -1,30 +1,20 @@
-use Rattle.std.proofs.Common.{◌++◌, List, map, sym, ap, ◌∙◌, append-nil}
-use Rattle.mj_maps.specs.Map.{entries, picked}
-use Rattle.mj_cells.specs.declared.table.CellView.{CellView}
+use Rattle.std.proofs.Common.{rules, map, ap, ◌∙◌}
+use Rattle.std.proofs.lemmas.List.Sorted.{IsPermutation-map, IsPermutation-trans, ranks_by, answers_always}
+use Rattle.mj_maps.specs.Map.{entries}
 use Rattle.mj_cells.specs.Next.{cell_of}
+use Rattle.mj_cells.proofs.Keys.{exact_key}
 use Rattle.mj_tables.specs.Layered.{early_cells}
-use Rattle.mj_tables.proofs.SlotTrees.{early_entry, early_entries, picked_none, picked_some, views_push}
+use Rattle.mj_tables.specs.Slots.{slots_of, early_slots}
+use Rattle.mj_tables.proofs.EarlyViews.{key_of, key_below, sorted_views}
+use Rattle.mj_tables.proofs.Laid.{early_is}
 use Rattle.mj_tables.proofs.layers.Layers.cells.Goals as goal
-
-pub loop-key-init : goal.loop-key-init
-loop-key-init c = ap (λ (xs : List CellView). map cell_of xs ++ picked early_entry c.into_iter-key-iterator.result) c.new-found.ensures.items
-
-pub loop-key-preserved-in-Continue-1 : goal.loop-key-preserved-in-Continue-1
-loop-key-preserved-in-Continue-1 c =
-    let view : CellView = record { key = c.in-Some.key; value = c.in-Some-early.value } in
-    ap (λ (xs : List CellView). map cell_of xs ++ picked early_entry c.next.new.self) c.in_ok-push.ensures.items
-    ∙ views_push c.loop-key.found.items view (picked early_entry c.next.new.self)
-    ∙ ap (λ xs. map cell_of c.loop-key.found.items ++ xs) (sym (ap (picked early_entry) c.in-Some.ensures.steps ∙ picked_some early_entry c.in-Some.key.now c.in-Some.slot.now c.next.new.self c.in-Some-early.value.now c.in-Some-early.ensures))
-    ∙ c.loop-key.invariant
-
-pub loop-key-preserved : goal.loop-key-preserved
-loop-key-preserved c =
-    ap (λ xs. map cell_of c.loop-key.found.items ++ xs) (sym (ap (picked early_entry) c.in-Some.ensures.steps ∙ picked_none early_entry c.in-Some.key.now c.in-Some.slot.now c.next.new.self c.in_default.ensures))
-    ∙ c.loop-key.invariant
 
 pub returns : goal.returns
 returns c =
-    sym (append-nil (map cell_of c.loop-key.found.items)) ∙ ap (λ xs. map cell_of c.loop-key.found.items ++ picked early_entry xs) (sym c.in-None.ensures.steps.0) ∙ c.loop-key.invariant
-    ∙ ap (picked early_entry) (c.into_iter-key-iterator.ensures.into_iter_gives ∙ c.iter-key-items.ensures.rest)
-    ∙ early_entries c.self.inside.slots.entries c.self.inside.groups.items c.iter-key-items.ensures.ordered c.self.invariant.laid
+    let m = early_slots (slots_of c.self.inside.slots) in
+    sorted_views m c.sort_unstable_by.new.self.items
+    (IsPermutation-trans (entries m) (map cell_of c.in_ok-found.found.items) (map cell_of c.sort_unstable_by.new.self.items) c.in_ok-found.ensures
+    (IsPermutation-map cell_of c.in_ok-found.found.items c.sort_unstable_by.new.self.items c.sort_unstable_by.ensures.permutation))
+    (c.sort_unstable_by.ensures.sorted key_below (ranks_by exact_key.total key_of) (answers_always _ _ _ (λ f a r g h. search rules)))
+    ∙ ap entries (early_is (slots_of c.self.inside.slots) c.self.inside.groups.items c.self.invariant.laid)
     ∙ ap (λ l. entries (early_cells l)) c.self.view_is

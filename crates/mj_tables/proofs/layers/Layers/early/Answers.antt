@@ -3,7 +3,7 @@ use Rattle.std.specs.Option.{option_and_then}
 use Rattle.mj_maps.specs.Map.{get}
 use Rattle.mj_tables.specs.Layered.{early_cells}
 use Rattle.mj_tables.specs.Slots.{slots_of, early_in}
-use Rattle.mj_tables.proofs.SlotTrees.{found_slot}
+use Rattle.mj_tables.proofs.SlotHashes.{found_slot}
 use Rattle.mj_tables.proofs.Laid.{early_at}
 use Rattle.mj_tables.proofs.layers.Layers.early.Goals as goal
 

@@ -4,7 +4,7 @@ use Rattle.std.specs.Option.{option_and_then}
 use Rattle.mj_tables.specs.declared.slot.Slot.{Slot}
 use Rattle.mj_tables.specs.Layered.{all_writes, writes_key}
 use Rattle.mj_tables.specs.Slots.{slots_of}
-use Rattle.mj_tables.proofs.SlotTrees.{found_slot}
+use Rattle.mj_tables.proofs.SlotHashes.{found_slot}
 use Rattle.mj_tables.proofs.Laid.{writes_at}
 use Rattle.mj_tables.proofs.layers.Layers.projects.Goals as goal
 

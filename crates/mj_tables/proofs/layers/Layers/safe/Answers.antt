@@ -5,7 +5,7 @@ use Rattle.mj_maps.proofs.MapLaws.{get-collect}
 use Rattle.mj_cells.proofs.Keys.{exact_key}
 use Rattle.mj_tables.specs.declared.slot.Slot.{Slot}
 use Rattle.mj_tables.specs.Slots.{slots_of}
-use Rattle.mj_tables.proofs.SlotTrees.{found_slot}
+use Rattle.mj_tables.proofs.SlotHashes.{found_slot}
 use Rattle.mj_tables.proofs.layers.Layers.safe.Goals as goal
 
 pub returns-in-Some : goal.returns-in-Some
