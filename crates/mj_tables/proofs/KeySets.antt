@@ -19,7 +19,7 @@ use Rattle.mj_cells.proofs.Kept.{tree_cmp, tree_order}
 use Rattle.mj_tables.specs.declared.slot.Slot.{Slot}
 use Rattle.mj_tables.specs.Layered.{writes_key, HasRoom}
 use Rattle.mj_tables.specs.Slots.{Slots, rooms}
-use Rattle.mj_tables.specs.Listed.{has_key, there_at, Adds, AddsAll, AllStay, Keeps, rooms_in}
+use Rattle.mj_tables.specs.Listed.{has_key, there_at, Adds, AddsAll, Drops, AllStay, Keeps, rooms_in}
 use Rattle.mj_tables.proofs.SlotMaps.{get-rooms}
 
 -- ---- the code's order is that of keys
@@ -37,16 +37,16 @@ true_or false b = refl
 pub one_added : (s n : BTreeSet CellKey) (k : CellKey) → ((q : CellKey) → contains tree_cmp n q ≡ cond (is_at (tree_cmp k) q) true (contains tree_cmp s q)) → Adds s k n
 one_added s n k more q = sym (set_is n q) ∙ more q ∙ true_or (is_at (tree_cmp k) q) (contains tree_cmp s q) ∙ (λ i. at_is k q i || set_is s q i)
 
-pub one_dropped : (s n : BTreeSet CellKey) (k : CellKey) → ((q : CellKey) → contains tree_cmp n q ≡ cond (is_at (tree_cmp k) q) false (contains tree_cmp s q)) → (q : CellKey) → has_key n q ≡ cond (same_key q k) false (has_key s q)
+pub one_dropped : (s n : BTreeSet CellKey) (k : CellKey) → ((q : CellKey) → contains tree_cmp n q ≡ cond (is_at (tree_cmp k) q) false (contains tree_cmp s q)) → Drops s k n
 one_dropped s n k less q = sym (set_is n q) ∙ less q ∙ (λ i. cond (at_is k q i) false (set_is s q i))
 
 -- ---- a list of keys as a set
 
-or_true : (a b : Bool) → b ≡ true → (a || b) ≡ true
+pub or_true : (a b : Bool) → b ≡ true → (a || b) ≡ true
 or_true true b h = refl
 or_true false b h = h
 
-or_swaps : (a b c : Bool) → (b || (a || c)) ≡ (a || (b || c))
+pub or_swaps : (a b c : Bool) → (b || (a || c)) ≡ (a || (b || c))
 or_swaps a true c = sym (or_true a true refl)
 or_swaps a false c = refl
 
@@ -134,7 +134,7 @@ goes h t true gone = sym (ap (λ b. h && (b || false)) gone ∙ and_false h)
 goes h t false gone = sym (ap (λ b. h && (b || true)) gone ∙ and_true h)
 
 -- a key that is not there, once it is out
-pub absent_goes : (m : Slots) (s : BTreeSet CellKey) (k : CellKey) (n : BTreeSet CellKey) → is_some (there_at m k) ≡ false → ((q : CellKey) → has_key n q ≡ cond (same_key q k) false (has_key s q)) → Keeps m s k n
+pub absent_goes : (m : Slots) (s : BTreeSet CellKey) (k : CellKey) (n : BTreeSet CellKey) → is_some (there_at m k) ≡ false → Drops s k n → Keeps m s k n
 absent_goes m s k n absent less q = less q ∙ elim (cases_key exact_key q k) [
   | inl e ↦ goes (has_key s q) (is_some (there_at m q)) (same_key q k) (ap (λ x. is_some (there_at m x)) e ∙ absent)
   | inr other ↦ ap (λ b. cond b false (has_key s q)) other ∙ sym (ap (λ b. has_key s q && (is_some (there_at m q) || not b)) other ∙ ap (λ b. has_key s q && b) (or_true (is_some (there_at m q)) true refl) ∙ and_true (has_key s q))

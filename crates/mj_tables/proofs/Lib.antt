@@ -5,6 +5,7 @@ pub mod SlotHashes
 pub mod EarlyViews
 pub mod Moved
 pub mod KeySets
+pub mod Apart
 pub mod NextThere
 pub mod Found
 pub mod Sound

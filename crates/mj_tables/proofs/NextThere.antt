@@ -19,8 +19,9 @@ use Rattle.mj_cells.specs.Next.{is_above, bound_above, first_of}
 use Rattle.mj_cells.proofs.Keys.{exact_key}
 use Rattle.mj_cells.proofs.Kept.{tree_cmp, tree_order, entries_kept}
 use Rattle.mj_tables.specs.Layered.{is_there, next_there}
-use Rattle.mj_tables.specs.Slots.{if_there}
-use Rattle.mj_tables.specs.Listed.{has_key, HasThere}
+use Rattle.mj_tables.specs.Slots.{Slots, if_there}
+use Rattle.mj_tables.specs.Listed.{has_key, there_at, there_along, HasThere}
+use Rattle.mj_tables.specs.There.{Rises}
 
 -- ---- keys as a map
 
@@ -54,11 +55,10 @@ shown cells k x = option_and_then if_there (get cells k)
 abbrev pub along : Map key_cmp CellValue → List CellKey → List (CellKey × CellValue)
 along cells ks = picked (shown cells) (units ks)
 
-pub along_none : (cells : Map key_cmp CellValue) (k : CellKey) (ks : List CellKey) → None ≡ option_and_then if_there (get cells k) → along cells (k ∷ ks) ≡ along cells ks
-along_none cells k ks none = rw (sym none) refl
-
-pub along_some : (cells : Map key_cmp CellValue) (k : CellKey) (ks : List CellKey) (v : CellValue) → Some v ≡ option_and_then if_there (get cells k) → along cells (k ∷ ks) ≡ (k, v) ∷ along cells ks
-along_some cells k ks v some = rw (sym some) refl
+-- what slots show along keys, where at each key they show what the cells do
+pub along_is : (m : Slots) (cells : Map key_cmp CellValue) → ((k : CellKey) → there_at m k ≡ option_and_then if_there (get cells k)) → (ks : List CellKey) → there_along m ks ≡ along cells ks
+along_is m cells same [] = refl
+along_is m cells same (k ∷ ks) = λ i. with_some k (same k i) (along_is m cells same ks i)
 
 entries-collect : {X : Type 0} (f : CellKey → X → Option CellValue) (m : Map key_cmp X) → entries (collect f m) ≡ picked f (entries m)
 unfolding entries collect
@@ -97,6 +97,10 @@ between_is : (s : BTreeSet CellKey) (after : Option CellKey) → keys_between tr
 between_is s None = refl
 between_is s (Some k) = (λ i. filter (λ x. and-true (is_lt (tree_cmp k x)) i) s.keys) ∙ ap (λ (r : CellKey → CellKey → Ordering). filter (λ x. is_lt (r k x)) s.keys) tree_order
 
+-- what is found along a tree above a key
+pub above_is : (s : BTreeSet CellKey) (found : List CellKey) (after : Option CellKey) (start : Bound CellKey) → start ≡ bound_above after → found ≡ keys_between tree_cmp start Unbounded s → found ≡ filter (is_above after) s.keys
+above_is s found after start is between = between ∙ ap (λ (b : Bound CellKey). keys_between tree_cmp b Unbounded s) is ∙ between_is s after
+
 filter_units : (after : Option CellKey) (ks : List CellKey) → units (filter (is_above after) ks) ≡ filter (λ (e : CellKey × Unit {0}). is_above after e.0) (units ks)
 filter_units after [] = refl
 filter_units after (k ∷ ks) = elim (is_above after k) as (λ b. units (cond b (k ∷ filter (is_above after) ks) (filter (is_above after) ks)) ≡ cond b ((k, tt) ∷ filter (λ (e : CellKey × Unit {0}). is_above after e.0) (units ks)) (filter (λ (e : CellKey × Unit {0}). is_above after e.0) (units ks))) [
@@ -130,8 +134,6 @@ filter_there after (e ∷ es) = elim (is_there e.1) as (λ b. cond (is_above aft
     ]
 
 -- the first cell that is there along a set's keys above a key
-pub next_is : (cells : Map key_cmp CellValue) (s : BTreeSet CellKey) (found : List CellKey) (after : Option CellKey) (start : Bound CellKey) → IsStrictlySortedBy tree_cmp s.keys → HasThere cells s → start ≡ bound_above after
-    → found ≡ keys_between tree_cmp start Unbounded s → first_of (along cells found) ≡ next_there cells after
-next_is cells s found after start sorted has is between =
-    ap (λ (ks : List CellKey). first_of (along cells ks)) (between ∙ ap (λ (b : Bound CellKey). keys_between tree_cmp b Unbounded s) is ∙ between_is s after)
-    ∙ ap first_of (ap (picked (shown cells)) (filter_units after s.keys) ∙ sym (filter_picked after (shown cells) (units s.keys)) ∙ ap (filter (λ (e : CellKey × CellValue). is_above after e.0)) (all_along cells s sorted has) ∙ sym (filter_there after (entries cells)))
+pub next_is : (cells : Map key_cmp CellValue) (s : BTreeSet CellKey) (after : Option CellKey) → Rises s → HasThere cells s → first_of (along cells (filter (is_above after) s.keys)) ≡ next_there cells after
+next_is cells s after rises has =
+    ap first_of (ap (picked (shown cells)) (filter_units after s.keys) ∙ sym (filter_picked after (shown cells) (units s.keys)) ∙ ap (filter (λ (e : CellKey × CellValue). is_above after e.0)) (all_along cells s (subst (λ (r : CellKey → CellKey → Ordering). IsStrictlySortedBy r s.keys) (sym tree_order) rises) has) ∙ sym (filter_there after (entries cells)))

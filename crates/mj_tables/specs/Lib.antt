@@ -1,4 +1,5 @@
 pub mod Layered
 pub mod Slots
 pub mod Listed
+pub mod There
 pub mod Inside

@@ -1,8 +1,8 @@
 -- The set of the keys whose early values are there, with room for more.
-use Rattle.std.specs.Prelude.{◌≡◌, Bool, true, not, ◌&&◌, ◌||◌, List, Option, Some, None, is_some, if◌then◌else◌, option_and_then}
+use Rattle.std.specs.Prelude.{◌≡◌, Bool, true, false, not, ◌&&◌, ◌||◌, List, [], ◌∷◌, Option, Some, None, is_some, if◌then◌else◌, option_and_then}
 use Rattle.std.specs.List.{list_any}
 use Rattle.std.specs.BTreeSet.{BTreeSet}
-use Rattle.mj_maps.specs.Map.{Map, Set, get, collect}
+use Rattle.mj_maps.specs.Map.{Map, Set, get, collect, with_some}
 use Rattle.mj_cells.specs.declared.cell.CellKey.{CellKey}
 use Rattle.mj_cells.specs.declared.cell.CellValue.{CellValue}
 use Rattle.mj_cells.specs.declared.cell.CellWrite.{CellWrite}
@@ -18,6 +18,11 @@ has_key s k = list_any (λ x. same_key k x) s.keys
 -- the early value of a key, where it is there
 abbrev pub there_at : Slots → CellKey → Option CellValue
 there_at m k = option_and_then there_in (get m k)
+
+-- the cells that are there along keys
+abbrev pub there_along : Slots → List CellKey → List (CellKey × CellValue)
+there_along m [] = []
+there_along m (k ∷ ks) = with_some k (there_at m k) (there_along m ks)
 
 -- the keys that are there, and no other
 abbrev pub AreThere : Slots → BTreeSet CellKey → Type 0
@@ -44,6 +49,10 @@ Adds s k n = (q : CellKey) → has_key n q ≡ (same_key q k || has_key s q)
 -- with the keys of these writes
 abbrev pub AddsAll : BTreeSet CellKey → List CellWrite → BTreeSet CellKey → Type 0
 AddsAll s ws n = (q : CellKey) → has_key n q ≡ (writes_key q ws || has_key s q)
+
+-- without it
+abbrev pub Drops : BTreeSet CellKey → CellKey → BTreeSet CellKey → Type 0
+Drops s k n = (q : CellKey) → has_key n q ≡ if same_key q k then false else has_key s q
 
 -- whatever is added, the keys that stand in the set stay
 abbrev pub AllStay : BTreeSet CellKey → BTreeSet CellKey → Type 0

@@ -2,27 +2,25 @@
 
 ghost use Rattle.std.specs.Prelude.{◌≡◌, ◌<◌, [], ◌∷◌, ◌++◌, map, IfOk, OnOk, OnErr, option_map};
 ghost use Rattle.std.specs.Option.{option_copied};
-ghost use Rattle.std.specs.Bound.{bound_map};
 ghost use Rattle.std.specs.List.Sorted.{IsPermutation};
 ghost use Rattle.mj_maps.specs.Map.{get, entries};
 ghost use Rattle.mj_cells.specs.declared.cell.CellWrite.{CellWrite};
-ghost use Rattle.mj_cells.specs.Next.{cell_of, bound_above};
+ghost use Rattle.mj_cells.specs.Next.{cell_of};
 ghost use Rattle.mj_cells.specs.Table.{put_all};
 ghost use Rattle.mj_tables.specs.Layered.{all_writes, writes_key, early_cells, next_there, EndBelow, HasRoom, ended, unended};
 ghost use Rattle.mj_tables.specs.Slots.{slots_of, early_slots};
 
 use crate::group::Group;
-use crate::listing::{keys_there, there_at};
 use crate::room::make_all_room;
 use crate::safe_cells::SafeCells;
 use crate::settling::{project_group, settle_ended};
 use crate::slot::Slot;
+use crate::there::There;
 use mj_base::Items;
 use mj_cells::{CellKey, CellValue, CellView, CellWrite, compare};
 use std::alloc::{AllocError, Global};
-use std::collections::{BTreeSet, HashMap, VecDeque};
+use std::collections::{HashMap, VecDeque};
 use std::marker::Model;
-use std::ops::Bound;
 
 /// Cells by key: the safe values, and over them the writes of groups that are not safe yet.
 #[derive(Drop)]
@@ -31,7 +29,7 @@ pub struct Layers {
     slots: HashMap<CellKey, Slot>,
     // The keys whose early values are there, in order, so that `next_there` does not step over what was removed.
     // It steps only over room that a `reserve` made and no `project` took.
-    there: BTreeSet<CellKey>,
+    there: There,
     groups: VecDeque<Group>,
 }
 
@@ -56,7 +54,7 @@ impl Layers {
         ensures groups { IfOk result (λ l. l.groups ≡ []) }
     {
         let slots = cells.into_slots();
-        let there = keys_there(alloc, &slots)?;
+        let there = There::of_slots(alloc, &slots)?;
         Ok(Layers {
             slots,
             there,
@@ -98,12 +96,7 @@ impl Layers {
     pub fn next_there(&self, after: Option<&CellKey>) -> Option<CellView<'_>>
         ensures { option_map cell_of result ≡ next_there (early_cells self.now) (option_copied after.entry) }
     {
-        for key in self.there.range((start_above(after), Bound::Unbounded)) {
-            if let Some(value) = there_at(&self.slots, key) {
-                return Some(CellView { key, value });
-            }
-        }
-        None
+        self.there.next_cell(&self.slots, after)
     }
 
     /// All early cells, in the order of their keys.
@@ -152,15 +145,6 @@ impl Layers {
         ensures early { early_cells self.new ≡ early_cells self.old }
     {
         settle_ended(&mut self.slots, &mut self.groups, upto);
-    }
-}
-
-fn start_above(after: Option<&CellKey>) -> Bound<&CellKey>
-    ensures { bound_map (λ x. x.now) result ≡ bound_above (option_copied after.entry) }
-{
-    match after {
-        Some(key) => Bound::Excluded(key),
-        None => Bound::Unbounded,
     }
 }
 

@@ -9,6 +9,7 @@ mod room;
 mod safe_cells;
 mod settling;
 mod slot;
+mod there;
 
 pub use group::Group;
 pub use layers::Layers;

@@ -1,14 +1,17 @@
-//! The keys whose early values are there, as a set.
+//! Keys whose early values are there, and their cells.
 
-ghost use Rattle.std.specs.Prelude.{◌≡◌, IfOk, OnOk};
-ghost use Rattle.std.specs.Option.{option_copied};
+ghost use Rattle.std.specs.Prelude.{◌≡◌, OnOk};
+ghost use Rattle.std.specs.Option.{option_copied, option_map};
+ghost use Rattle.mj_cells.specs.Next.{cell_of, first_of};
 ghost use Rattle.mj_tables.specs.Slots.{slots_of};
-ghost use Rattle.mj_tables.specs.Listed.{there_at, AreThere, Adds, AreLast, Keeps, KeepsThere, AllStay};
+ghost use Rattle.mj_tables.specs.Listed.{there_at, there_along, Adds, AreLast, Keeps, KeepsThere, AllStay};
 
 use crate::slot::{Slot, is_there};
-use mj_cells::{CellKey, CellValue, CellWrite};
+use crate::there::There;
+use mj_cells::{CellKey, CellValue, CellView, CellWrite};
 use std::alloc::{AllocError, Global};
-use std::collections::{BTreeSet, HashMap};
+use std::collections::HashMap;
+use std::collections::btree_set::Range;
 
 /// The early value of a key, where it is neither gone nor null.
 pub fn there_at<'a>(slots: &'a HashMap<CellKey, Slot>, key: &CellKey) -> Option<&'a CellValue>
@@ -20,29 +23,23 @@ pub fn there_at<'a>(slots: &'a HashMap<CellKey, Slot>, key: &CellKey) -> Option<
     }
 }
 
-/// The keys that are there. They come in no order, and the set that is made of them at once puts them in order.
-pub fn keys_there(
-    alloc: Global,
-    slots: &HashMap<CellKey, Slot>,
-) -> Result<BTreeSet<CellKey>, AllocError>
-    ensures { IfOk result (λ there. AreThere (slots_of slots.now) there) }
+/// The first of these keys that is there, with its value.
+pub fn first_there<'a>(
+    slots: &'a HashMap<CellKey, Slot>,
+    keys: Range<'a, CellKey>,
+) -> Option<CellView<'a>>
+    ensures { option_map cell_of result ≡ first_of (there_along (slots_of slots.now) keys.entry) }
 {
-    let mut keys = Vec::new(alloc);
-    for (key, slot) in slots.iter() {
-        if slot.there().is_some() {
-            let copy = key.copy(alloc)?;
-            keys.push(copy)?;
+    for key in keys {
+        if let Some(value) = there_at(slots, key) {
+            return Some(CellView { key, value });
         }
     }
-    keys.into_iter().collect(alloc)
+    None
 }
 
 /// Adds a key, which needs no memory where it stands in the set already.
-pub fn add_key(
-    alloc: Global,
-    there: &mut BTreeSet<CellKey>,
-    key: &CellKey,
-) -> Result<(), AllocError>
+pub fn add_key(alloc: Global, there: &mut There, key: &CellKey) -> Result<(), AllocError>
     ensures ok { OnOk result (Adds there.old key.now there.new) }
     ensures stay { AllStay there.old there.new }
 {
@@ -54,7 +51,7 @@ pub fn add_key(
 }
 
 // Takes the key out, unless it is there.
-fn drop_absent_key(slots: &HashMap<CellKey, Slot>, there: &mut BTreeSet<CellKey>, key: &CellKey)
+fn drop_absent_key(slots: &HashMap<CellKey, Slot>, there: &mut There, key: &CellKey)
     ensures { Keeps (slots_of slots.now) there.old key.now there.new }
 {
     if there_at(slots, key).is_none() {
@@ -63,7 +60,7 @@ fn drop_absent_key(slots: &HashMap<CellKey, Slot>, there: &mut BTreeSet<CellKey>
 }
 
 /// Takes the keys of these writes out that are not there. A key whose last write is there stays, so a write that is there needs no look-up.
-pub fn drop_absent(slots: &HashMap<CellKey, Slot>, there: &mut BTreeSet<CellKey>, ws: &[CellWrite])
+pub fn drop_absent(slots: &HashMap<CellKey, Slot>, there: &mut There, ws: &[CellWrite])
     requires { AreLast (slots_of slots.now) ws.now }
     ensures { KeepsThere (slots_of slots.now) there.old ws.now there.new }
 {

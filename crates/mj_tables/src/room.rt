@@ -7,15 +7,16 @@ ghost use Rattle.mj_tables.specs.Listed.{Adds, AddsAll, AllStay, ListsThere};
 
 use crate::listing::add_key;
 use crate::slot::Slot;
+use crate::there::There;
 use mj_cells::{CellKey, CellWrite};
 use std::alloc::{AllocError, Global};
-use std::collections::{BTreeSet, HashMap};
+use std::collections::HashMap;
 
 // Gives a key that has no slot an empty one. The set comes first, so that on an error the slots stay.
 fn add_room(
     alloc: Global,
     slots: &mut HashMap<CellKey, Slot>,
-    there: &mut BTreeSet<CellKey>,
+    there: &mut There,
     key: &CellKey,
 ) -> Result<(), AllocError>
     ensures ok { OnOk result (slots_of slots.new ≡ insert (slots_of slots.old) key.now empty_slot) }
@@ -38,7 +39,7 @@ fn add_room(
 fn make_room(
     alloc: Global,
     slots: &mut HashMap<CellKey, Slot>,
-    there: &mut BTreeSet<CellKey>,
+    there: &mut There,
     key: &CellKey,
 ) -> Result<(), AllocError>
     requires { ListsThere (slots_of slots.old) there.old }
@@ -62,7 +63,7 @@ fn make_room(
 pub fn make_all_room(
     alloc: Global,
     slots: &mut HashMap<CellKey, Slot>,
-    there: &mut BTreeSet<CellKey>,
+    there: &mut There,
     ws: &[CellWrite],
 ) -> Result<(), AllocError>
     requires { ListsThere (slots_of slots.old) there.old }

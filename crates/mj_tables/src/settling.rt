@@ -10,8 +10,9 @@ ghost use Rattle.mj_tables.specs.Listed.{KeepsThere};
 use crate::group::Group;
 use crate::listing::drop_absent;
 use crate::slot::{Slot, project, settle};
+use crate::there::There;
 use mj_cells::{CellKey, CellValue, CellWrite};
-use std::collections::{BTreeSet, HashMap, VecDeque};
+use std::collections::{HashMap, VecDeque};
 
 // Puts the values of a group over what its keys hold.
 fn project_all(
@@ -34,7 +35,7 @@ fn project_all(
 /// Puts a group over what its keys hold, whose set then has those of them that are there. `values` are those of its writes again.
 pub fn project_group(
     slots: &mut HashMap<CellKey, Slot>,
-    there: &mut BTreeSet<CellKey>,
+    there: &mut There,
     ws: &[CellWrite],
     values: Vec<CellValue>,
     ends: u64,

@@ -1,16 +1,11 @@
 use Rattle.std.proofs.Common.{sym, subst, ◌∙◌}
 use Rattle.mj_cells.specs.declared.cell.CellKey.{CellKey}
 use Rattle.mj_tables.specs.Listed.{Adds}
-use Rattle.mj_tables.proofs.KeySets.{set_is, one_added, adds_stay, added_already}
+use Rattle.mj_tables.proofs.KeySets.{added_already}
 use Rattle.mj_tables.proofs.listing.add_key.Goals as goal
 
 pub returns-in_ok-insert-clause-ok : goal.returns-in_ok-insert-clause-ok
-returns-in_ok-insert-clause-ok c = subst (λ (k : CellKey). Adds c.args.there.now k c.insert.new.self) c.in_ok-copy.ensures (one_added c.args.there.now c.insert.new.self c.in_ok-copy.copy c.in_ok-insert.ensures.updates.0)
-
-pub returns-in_ok-insert-clause-stay : goal.returns-in_ok-insert-clause-stay
-returns-in_ok-insert-clause-stay c =
-    adds_stay c.args.there.now c.in_ok-copy.copy c.insert.new.self (one_added c.args.there.now c.insert.new.self c.in_ok-copy.copy c.in_ok-insert.ensures.updates.0)
+returns-in_ok-insert-clause-ok c = subst (λ (k : CellKey). Adds c.args.there.now k c.insert.new.self) c.in_ok-copy.ensures c.in_ok-insert.ensures.ok
 
 pub returns-else-not-contains-clause-ok : goal.returns-else-not-contains-clause-ok
-returns-else-not-contains-clause-ok c =
-    added_already c.args.there.now c.args.key.now (sym (set_is c.args.there.now c.args.key.now) ∙ sym c.contains.ensures ∙ c.if-not-contains.false)
+returns-else-not-contains-clause-ok c = added_already c.args.there.now c.args.key.now (sym c.contains.ensures ∙ c.if-not-contains.false)

@@ -3,12 +3,8 @@ use Rattle.mj_maps.specs.Map.{insert}
 use Rattle.mj_cells.specs.declared.cell.CellKey.{CellKey}
 use Rattle.mj_tables.specs.Slots.{slots_of, empty_slot}
 use Rattle.mj_tables.specs.Listed.{Adds}
-use Rattle.mj_tables.proofs.KeySets.{one_added, adds_stay}
 use Rattle.mj_tables.proofs.SlotHashes.{one_hashed}
 use Rattle.mj_tables.proofs.room.add_room.Goals as goal
-
-pub returns-in_err-insert-2-clause-stay : goal.returns-in_err-insert-2-clause-stay
-returns-in_err-insert-2-clause-stay c = adds_stay c.args.there.now c.in_ok-listed.listed c.insert.new.self (one_added c.args.there.now c.insert.new.self c.in_ok-listed.listed c.in_ok-insert.ensures.updates.0)
 
 pub returns-clause-ok : goal.returns-clause-ok
 returns-clause-ok c =
@@ -16,7 +12,4 @@ returns-clause-ok c =
     ∙ ap (λ (k : CellKey). insert (slots_of c.args.slots.now) k empty_slot) c.in_ok-own.ensures
 
 pub returns-clause-added : goal.returns-clause-added
-returns-clause-added c = subst (λ (k : CellKey). Adds c.args.there.now k c.insert.new.self) c.in_ok-listed.ensures (one_added c.args.there.now c.insert.new.self c.in_ok-listed.listed c.in_ok-insert.ensures.updates.0)
-
-pub returns-clause-stay : goal.returns-clause-stay
-returns-clause-stay c = adds_stay c.args.there.now c.in_ok-listed.listed c.insert.new.self (one_added c.args.there.now c.insert.new.self c.in_ok-listed.listed c.in_ok-insert.ensures.updates.0)
+returns-clause-added c = subst (λ (k : CellKey). Adds c.args.there.now k c.insert.new.self) c.in_ok-listed.ensures c.in_ok-insert.ensures.ok
