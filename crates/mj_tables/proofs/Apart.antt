@@ -1,4 +1,4 @@
--- The set of dentries' keys and the set of the others, seen as one.
+-- The set of directories' keys and the set of the others, seen as one.
 use Rattle.std.proofs.Common.{◌≡◌, Bool, true, false, cond, ◌||◌, List, [], ◌∷◌, ◌++◌, Option, Some, None, refl, sym, ap, subst, ◌∙◌, inl, inr}
 use Rattle.std.specs.List.{AllByRecursion, filter}
 use Rattle.std.specs.List.Sorted.{IsStrictlySortedBy}
@@ -17,9 +17,9 @@ use Rattle.mj_cells.specs.Cell.{key_cmp, same_key}
 use Rattle.mj_cells.specs.Next.{is_above, first_of}
 use Rattle.mj_cells.proofs.Keys.{exact_key}
 use Rattle.mj_cells.proofs.Kept.{tree_cmp, tree_order}
-use Rattle.mj_tables.specs.Slots.{Slots}
+use Rattle.mj_tables.specs.Slots.{Slots, is_of_dir}
 use Rattle.mj_tables.specs.Listed.{has_key, there_at, there_along, Adds, Drops}
-use Rattle.mj_tables.specs.There.{is_dentry, dentries_above, HasKind, Rises, AreApart, both_sets}
+use Rattle.mj_tables.specs.There.{dirs_above, HasKind, Rises, AreApart, both_sets}
 use Rattle.mj_tables.proofs.KeySets.{or_true, or_swaps, one_pushed}
 
 -- ---- the keys of both
@@ -44,18 +44,18 @@ not_true true f = sym (f refl)
 not_true false f = refl
 
 module _ (d o : BTreeSet CellKey) (apart : AreApart d o) where
-  pub no_other : (k : CellKey) → is_dentry k ≡ true → has_key o k ≡ false
+  pub no_other : (k : CellKey) → is_of_dir k ≡ true → has_key o k ≡ false
   no_other k is = not_true (has_key o k) (λ has. sym (apart.are_others k has) ∙ is)
 
-  pub no_dentry : (k : CellKey) → is_dentry k ≡ false → has_key d k ≡ false
-  no_dentry k is = not_true (has_key d k) (λ has. sym is ∙ apart.are_dentries k has)
+  pub no_dir : (k : CellKey) → is_of_dir k ≡ false → has_key d k ≡ false
+  no_dir k is = not_true (has_key d k) (λ has. sym is ∙ apart.are_of_dirs k has)
 
 -- ---- a key that is added or taken out
 
 -- a key of the kind of the others
-pub kind_added : (b : Bool) (s n : BTreeSet CellKey) (k : CellKey) → HasKind b s → is_dentry k ≡ b → Adds s k n → HasKind b n
+pub kind_added : (b : Bool) (s n : BTreeSet CellKey) (k : CellKey) → HasKind b s → is_of_dir k ≡ b → Adds s k n → HasKind b n
 kind_added b s n k kind is adds q has = elim (cases_key exact_key q k) [
-  | inl e ↦ ap is_dentry e ∙ is
+  | inl e ↦ ap is_of_dir e ∙ is
   | inr other ↦ kind q (sym (adds q ∙ ap (λ c. c || has_key s q) other) ∙ has)
 ]
 
@@ -66,8 +66,8 @@ was_there false b h = h
 pub kind_dropped : (b : Bool) (s n : BTreeSet CellKey) (k : CellKey) → HasKind b s → Drops s k n → HasKind b n
 kind_dropped b s n k kind drops q has = kind q (was_there (same_key q k) (has_key s q) (sym (drops q) ∙ has))
 
-pub dentry_added : (d o n : BTreeSet CellKey) (k : CellKey) → Adds d k n → Adds (both_sets d o) k (both_sets n o)
-dentry_added d o n k adds q =
+pub dir_added : (d o n : BTreeSet CellKey) (k : CellKey) → Adds d k n → Adds (both_sets d o) k (both_sets n o)
+dir_added d o n k adds q =
     has_both n o q ∙ ap (λ b. b || has_key o q) (adds q) ∙ sym (or_assoc (same_key q k) (has_key d q) (has_key o q)) ∙ ap (λ b. same_key q k || b) (sym (has_both d o q))
 
 pub other_added : (d o n : BTreeSet CellKey) (k : CellKey) → Adds o k n → Adds (both_sets d o) k (both_sets d n)
@@ -82,16 +82,16 @@ second_out : (a h p : Bool) → (a ≡ true → h ≡ false) → (h || cond a fa
 second_out true h p f = ap (λ b. b || false) (f refl)
 second_out false h p f = refl
 
-pub dentry_dropped : (d o n : BTreeSet CellKey) (k : CellKey) → AreApart d o → is_dentry k ≡ true → Drops d k n → Drops (both_sets d o) k (both_sets n o)
-dentry_dropped d o n k apart is drops q =
+pub dir_dropped : (d o n : BTreeSet CellKey) (k : CellKey) → AreApart d o → is_of_dir k ≡ true → Drops d k n → Drops (both_sets d o) k (both_sets n o)
+dir_dropped d o n k apart is drops q =
     has_both n o q ∙ ap (λ b. b || has_key o q) (drops q)
-    ∙ first_out (same_key q k) (has_key d q) (has_key o q) (λ same. no_other d o apart q (ap is_dentry (eq_true exact_key q k same) ∙ is))
+    ∙ first_out (same_key q k) (has_key d q) (has_key o q) (λ same. no_other d o apart q (ap is_of_dir (eq_true exact_key q k same) ∙ is))
     ∙ ap (cond (same_key q k) false) (sym (has_both d o q))
 
-pub other_dropped : (d o n : BTreeSet CellKey) (k : CellKey) → AreApart d o → is_dentry k ≡ false → Drops o k n → Drops (both_sets d o) k (both_sets d n)
+pub other_dropped : (d o n : BTreeSet CellKey) (k : CellKey) → AreApart d o → is_of_dir k ≡ false → Drops o k n → Drops (both_sets d o) k (both_sets d n)
 other_dropped d o n k apart is drops q =
     has_both d n q ∙ ap (λ b. has_key d q || b) (drops q)
-    ∙ second_out (same_key q k) (has_key d q) (has_key o q) (λ same. no_dentry d o apart q (ap is_dentry (eq_true exact_key q k same) ∙ is))
+    ∙ second_out (same_key q k) (has_key d q) (has_key o q) (λ same. no_dir d o apart q (ap is_of_dir (eq_true exact_key q k same) ∙ is))
     ∙ ap (cond (same_key q k) false) (sym (has_both d o q))
 
 -- ---- lists of keys
@@ -102,44 +102,54 @@ no_kind b ks none q has = absurd (false≢true (sym (ap (λ (xs : List CellKey).
 pub pushed : (ks : List CellKey) (k : CellKey) (new : List CellKey) → new ≡ ks ++ k ∷ [] → Adds (record { keys = ks }) k (record { keys = new })
 pushed ks k new is = subst (λ (xs : List CellKey). Adds (record { keys = ks }) k (record { keys = xs })) (sym is) (one_pushed ks k)
 
--- ---- dentries come first
+-- ---- directories' keys come first
 
-dentry_first : (k l : CellKey) → is_dentry k ≡ true → is_dentry l ≡ false → key_cmp k l ≡ Less
-dentry_first (Dentry d n) (Dentry e m) is other = absurd (true≢false other)
-dentry_first (Dentry d n) (DirHead e) is other = refl
-dentry_first (Dentry d n) NextIno is other = refl
-dentry_first (Dentry d n) (Session c) is other = refl
-dentry_first (Dentry d n) (Done c t) is other = refl
-dentry_first (Dentry d n) (OpenOf c i) is other = refl
-dentry_first _ _ is other = absurd (false≢true is)
+dir_first : (k l : CellKey) → is_of_dir k ≡ true → is_of_dir l ≡ false → key_cmp k l ≡ Less
+dir_first (Dentry d n) (Dentry e m) is other = absurd (true≢false other)
+dir_first (Dentry d n) (DirHead e) is other = absurd (true≢false other)
+dir_first (Dentry d n) NextIno is other = refl
+dir_first (Dentry d n) (Session c) is other = refl
+dir_first (Dentry d n) (Done c t) is other = refl
+dir_first (Dentry d n) (OpenOf c i) is other = refl
+dir_first (DirHead d) (Dentry e m) is other = absurd (true≢false other)
+dir_first (DirHead d) (DirHead e) is other = absurd (true≢false other)
+dir_first (DirHead d) NextIno is other = refl
+dir_first (DirHead d) (Session c) is other = refl
+dir_first (DirHead d) (Done c t) is other = refl
+dir_first (DirHead d) (OpenOf c i) is other = refl
+dir_first _ _ is other = absurd (false≢true is)
 
-not_above : (a k : CellKey) → is_dentry a ≡ false → is_dentry k ≡ true → is_lt (key_cmp a k) ≡ false
+not_above : (a k : CellKey) → is_of_dir a ≡ false → is_of_dir k ≡ true → is_lt (key_cmp a k) ≡ false
 not_above (Dentry d n) k other is = absurd (true≢false other)
-not_above (DirHead e) (Dentry d n) other is = refl
-not_above NextIno (Dentry d n) other is = refl
-not_above (Session c) (Dentry d n) other is = refl
-not_above (Done c t) (Dentry d n) other is = refl
-not_above (OpenOf c i) (Dentry d n) other is = refl
+not_above (DirHead d) k other is = absurd (true≢false other)
+not_above NextIno (Dentry e m) other is = refl
+not_above NextIno (DirHead e) other is = refl
+not_above (Session c) (Dentry e m) other is = refl
+not_above (Session c) (DirHead e) other is = refl
+not_above (Done c t) (Dentry e m) other is = refl
+not_above (Done c t) (DirHead e) other is = refl
+not_above (OpenOf c i) (Dentry e m) other is = refl
+not_above (OpenOf c i) (DirHead e) other is = refl
 not_above _ _ other is = absurd (false≢true is)
 
-first_has : (b : Bool) (k : CellKey) (ks : List CellKey) → HasKind b (record { keys = k ∷ ks }) → is_dentry k ≡ b
+first_has : (b : Bool) (k : CellKey) (ks : List CellKey) → HasKind b (record { keys = k ∷ ks }) → is_of_dir k ≡ b
 first_has b k ks kind = kind k (ap (λ c. c || has_key (record { keys = ks }) k) (eq_same exact_key k))
 
 rest_have : (b : Bool) (k : CellKey) (ks : List CellKey) → HasKind b (record { keys = k ∷ ks }) → HasKind b (record { keys = ks })
 rest_have b k ks kind q has = kind q (or_true (same_key q k) (has_key (record { keys = ks }) q) has)
 
-all_less : (k : CellKey) (ks ls : List CellKey) → is_dentry k ≡ true → AllByRecursion (λ y. key_cmp k y ≡ Less) ks → HasKind false (record { keys = ls }) → AllByRecursion (λ y. key_cmp k y ≡ Less) (ks ++ ls)
+all_less : (k : CellKey) (ks ls : List CellKey) → is_of_dir k ≡ true → AllByRecursion (λ y. key_cmp k y ≡ Less) ks → HasKind false (record { keys = ls }) → AllByRecursion (λ y. key_cmp k y ≡ Less) (ks ++ ls)
 all_less k [] [] is less others = tt
-all_less k [] (l ∷ ls) is less others = (dentry_first k l is (first_has false l ls others), all_less k [] ls is tt (rest_have false l ls others))
+all_less k [] (l ∷ ls) is less others = (dir_first k l is (first_has false l ls others), all_less k [] ls is tt (rest_have false l ls others))
 all_less k (x ∷ ks) ls is less others = (less.0, all_less k ks ls is less.1 others)
 
 append_rises : (ks ls : List CellKey) → Rises (record { keys = ks }) → Rises (record { keys = ls }) → HasKind true (record { keys = ks }) → HasKind false (record { keys = ls }) → Rises (record { keys = ks ++ ls })
 unfolding IsStrictlySortedBy
-append_rises [] ls rise above dentries others = above
-append_rises (k ∷ ks) ls rise above dentries others = (all_less k ks ls (first_has true k ks dentries) rise.0 others, append_rises ks ls rise.1 above (rest_have true k ks dentries) others)
+append_rises [] ls rise above dirs others = above
+append_rises (k ∷ ks) ls rise above dirs others = (all_less k ks ls (first_has true k ks dirs) rise.0 others, append_rises ks ls rise.1 above (rest_have true k ks dirs) others)
 
 pub both_rise : (d o : BTreeSet CellKey) → AreApart d o → Rises (both_sets d o)
-both_rise d o apart = append_rises d.keys o.keys apart.dentries_rise apart.others_rise apart.are_dentries apart.are_others
+both_rise d o apart = append_rises d.keys o.keys apart.dirs_rise apart.others_rise apart.are_of_dirs apart.are_others
 
 -- a tree's keys rise
 pub tree_rises : (s : BTreeSet CellKey) → IsStrictlySortedBy tree_cmp s.keys → Rises s
@@ -147,14 +157,14 @@ tree_rises s sorted = subst (λ (r : CellKey → CellKey → Ordering). IsStrict
 
 -- ---- the first key above
 
-none_above : (a : CellKey) (ks : List CellKey) → is_dentry a ≡ false → HasKind true (record { keys = ks }) → filter (is_above (Some a)) ks ≡ []
-none_above a [] other dentries = refl
-none_above a (k ∷ ks) other dentries =
-    ap (λ b. cond b (k ∷ filter (is_above (Some a)) ks) (filter (is_above (Some a)) ks)) (not_above a k other (first_has true k ks dentries)) ∙ none_above a ks other (rest_have true k ks dentries)
+none_above : (a : CellKey) (ks : List CellKey) → is_of_dir a ≡ false → HasKind true (record { keys = ks }) → filter (is_above (Some a)) ks ≡ []
+none_above a [] other dirs = refl
+none_above a (k ∷ ks) other dirs =
+    ap (λ b. cond b (k ∷ filter (is_above (Some a)) ks) (filter (is_above (Some a)) ks)) (not_above a k other (first_has true k ks dirs)) ∙ none_above a ks other (rest_have true k ks dirs)
 
-pub no_dentries_above : (after : Option CellKey) (d : BTreeSet CellKey) → dentries_above after ≡ false → HasKind true d → filter (is_above after) d.keys ≡ []
-no_dentries_above None d other dentries = absurd (true≢false other)
-no_dentries_above (Some a) d other dentries = none_above a d.keys other dentries
+pub no_dirs_above : (after : Option CellKey) (d : BTreeSet CellKey) → dirs_above after ≡ false → HasKind true d → filter (is_above after) d.keys ≡ []
+no_dirs_above None d other dirs = absurd (true≢false other)
+no_dirs_above (Some a) d other dirs = none_above a d.keys other dirs
 
 first-along : (m : Slots) (ks ls : List CellKey) → first_of (there_along m (ks ++ ls)) ≡ option_or (first_of (there_along m ks)) (first_of (there_along m ls))
 first-along m [] ls = refl
@@ -163,7 +173,7 @@ first-along m (k ∷ ks) ls = elim (there_at m k) as (λ o. first_of (with_some 
   | Some v ↦ refl
 ]
 
--- first along the dentries, and then along the others
+-- first along those of directories, and then along the others
 pub next_of_both : (m : Slots) (d o : BTreeSet CellKey) (after : Option CellKey)
     → first_of (there_along m (filter (is_above after) (d.keys ++ o.keys))) ≡ option_or (first_of (there_along m (filter (is_above after) d.keys))) (first_of (there_along m (filter (is_above after) o.keys)))
 next_of_both m d o after = ap (λ (ks : List CellKey). first_of (there_along m ks)) (filter-append (is_above after) d.keys o.keys) ∙ first-along m (filter (is_above after) d.keys) (filter (is_above after) o.keys)

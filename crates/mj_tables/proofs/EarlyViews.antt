@@ -1,16 +1,16 @@
 -- The early cells of slots: gathered along a hash map's entries, and then sorted.
-use Rattle.std.proofs.Common.{◌≡◌, ◌+◌, arith, Bool, false, cond, T, List, [], ◌∷◌, ◌++◌, map, get_or, Option, Some, None, refl, sym, ap, subst, ◌∙◌}
+use Rattle.std.proofs.Common.{◌≡◌, ◌+◌, arith, Bool, true, false, not, cond, T, List, [], ◌∷◌, ◌++◌, map, get_or, Option, Some, None, refl, sym, ap, subst, ◌∙◌}
 use Rattle.std.specs.declared.cmp.Ordering.{Ordering}
 use Rattle.std.specs.declared.cmp.Ordering.TheVariants.{Less, Equal, Greater}
 use Rattle.std.specs.Ordering.{is_lt, is_eq, ordering_reverse}
 use Rattle.std.specs.Cmp.{eq_by_cmp_equiv}
 use Rattle.std.specs.FinMap.Entries.{by_order, below_all, is_sorted, find, put}
-use Rattle.std.specs.List.{AllByRecursion, IsDistinct}
+use Rattle.std.specs.List.{AllByRecursion, IsDistinct, filter}
 use Rattle.std.specs.List.Sorted.{IsPermutation, IsSortedBy, IsStrictlySortedBy}
 use Rattle.std.specs.Map.{lookup}
 use Rattle.std.proofs.lemmas.Bool.{true≢false}
 use Rattle.std.proofs.lemmas.List.{get_or-map, length-map}
-use Rattle.std.proofs.lemmas.List.Sorted.{IsPermutation-refl, IsPermutation-sym, IsPermutation-trans, IsPermutation-cons, IsPermutation-middle, IsPermutation-map, Contains-permutation}
+use Rattle.std.proofs.lemmas.List.Sorted.{IsPermutation-refl, IsPermutation-sym, IsPermutation-trans, IsPermutation-cons, IsPermutation-middle, IsPermutation-map, IsPermutation-filter_both, Contains-permutation}
 use Rattle.std.proofs.lemmas.Map.Keys.{IsDistinct-cons, IsDistinct-head, IsDistinct-tail, IsDistinct-IsPermutation, apart_from_distinct, sorted_from_all_adjacent}
 use Rattle.std.proofs.lemmas.Map.Views.{Contains-from_lookup, lookup-from_Contains}
 use Rattle.mj_maps.specs.Map.{Map, entries, entries_sorted, get, insert, from_entries, collect, picked, with_some, left_true, right_true}
@@ -25,7 +25,7 @@ use Rattle.mj_cells.specs.Next.{cell_of}
 use Rattle.mj_cells.proofs.Keys.{exact_key}
 use Rattle.mj_cells.proofs.Kept.{tree_order, entries_kept, hash_eq, hash_is}
 use Rattle.mj_tables.specs.declared.slot.Slot.{Slot}
-use Rattle.mj_tables.specs.Slots.{early_in, early_slots}
+use Rattle.mj_tables.specs.Slots.{early_in, early_entry, early_slots, is_of_dir, is_of}
 use Rattle.mj_tables.proofs.SlotHashes.{SlotEntries}
 
 is_less : (r : Ordering) → T (is_lt r) → is_eq r ≡ false
@@ -120,9 +120,6 @@ module _ {X Y : Type 0} (f : CellKey → X → Option Y) where
         | Some y ↦ IsDistinct-cons same_key e.0 (keys_of (picked f es)) (lacks_picked e.0 es (IsDistinct-head same_key e.0 (keys_of es) d)) rest
       ]
 
-abbrev pub early_entry : CellKey → Slot → Option CellValue
-early_entry k s = early_in s
-
 same_equality : hash_eq ≡ same_key
 same_equality = λ i a b. hash_is a b i
 
@@ -133,11 +130,35 @@ early_gathered es unique =
     subst (λ (m : Map key_cmp CellValue). IsPermutation (entries m) (picked early_entry es)) (from_picked early_entry es d)
     (IsPermutation-sym _ _ (from_moves (picked early_entry es) (differ_picked early_entry es d)))
 
-pub picked_none : (f : CellKey → Slot → Option CellValue) (k : CellKey) (s : Slot) (es : SlotEntries) → None ≡ f k s → picked f ((k, s) ∷ es) ≡ picked f es
-picked_none f k s es none = rw (sym none) refl
+-- ---- one kind after the other
 
-pub picked_some : (f : CellKey → Slot → Option CellValue) (k : CellKey) (s : Slot) (es : SlotEntries) (v : CellValue) → Some v ≡ f k s → picked f ((k, s) ∷ es) ≡ (k, v) ∷ picked f es
-picked_some f k s es v some = rw (sym some) refl
+abbrev pub Cells : Type 0
+Cells = List (CellKey × CellValue)
+
+abbrev pub of_kind : Bool → Cells → Cells
+of_kind d es = filter (λ e. is_of d e.0) es
+
+kind_apart : (b : Bool) → cond b false true ≡ not (cond b true false)
+kind_apart true = refl
+kind_apart false = refl
+
+other_kind : (e : CellKey × CellValue) → is_of false e.0 ≡ not (is_of true e.0)
+other_kind e = kind_apart (is_of_dir e.0)
+
+pub both_kinds : (es : Cells) → IsPermutation es (of_kind true es ++ of_kind false es)
+both_kinds = IsPermutation-filter_both (λ e. is_of true e.0) (λ e. is_of false e.0) other_kind
+
+pub skips_kind : (d : Bool) (k : CellKey) (s : Slot) (es : SlotEntries) → is_of d k ≡ false → of_kind d (picked early_entry ((k, s) ∷ es)) ≡ of_kind d (picked early_entry es)
+skips_kind d k s es other = elim (early_in s) as (λ o. of_kind d (with_some k o (picked early_entry es)) ≡ of_kind d (picked early_entry es)) [
+  | None ↦ refl
+  | Some v ↦ ap (λ b. cond b ((k, v) ∷ of_kind d (picked early_entry es)) (of_kind d (picked early_entry es))) other
+]
+
+pub skips_none : (d : Bool) (k : CellKey) (s : Slot) (es : SlotEntries) → None ≡ early_in s → of_kind d (picked early_entry ((k, s) ∷ es)) ≡ of_kind d (picked early_entry es)
+skips_none d k s es none = ap (λ o. of_kind d (with_some k o (picked early_entry es))) (sym none)
+
+pub takes_kind : (d : Bool) (k : CellKey) (s : Slot) (es : SlotEntries) (v : CellValue) → is_of d k ≡ true → Some v ≡ early_in s → of_kind d (picked early_entry ((k, s) ∷ es)) ≡ (k, v) ∷ of_kind d (picked early_entry es)
+takes_kind d k s es v this some = ap (λ o. of_kind d (with_some k o (picked early_entry es))) (sym some) ∙ ap (λ b. cond b ((k, v) ∷ of_kind d (picked early_entry es)) (of_kind d (picked early_entry es))) this
 
 pub views_push : (xs : List CellView) (x : CellView) (es : List (CellKey × CellValue)) → map cell_of (xs ++ x ∷ []) ++ es ≡ map cell_of xs ++ cell_of x ∷ es
 views_push [] x es = refl

@@ -1,9 +1,10 @@
 -- What the slots of keys hold, as maps.
-use Rattle.std.specs.Prelude.{◌≡◌, ℕ, Bool, true, false, nat_le, List, [], ◌∷◌, Option, Some, None, option_map, option_and_then, if◌then◌else◌}
+use Rattle.std.specs.Prelude.{◌≡◌, ℕ, Bool, true, false, not, nat_le, List, [], ◌∷◌, Option, Some, None, option_map, option_and_then, if◌then◌else◌}
 use Rattle.std.specs.Option.{option_or}
 use Rattle.std.specs.HashMap.{HashMap}
 use Rattle.mj_maps.specs.Map.{Map, Set, get, insert, remove, contains_key, collect, from_entries}
 use Rattle.mj_cells.specs.declared.cell.CellKey.{CellKey}
+use Rattle.mj_cells.specs.declared.cell.CellKey.TheVariants.{Dentry, DirHead}
 use Rattle.mj_cells.specs.declared.cell.CellValue.{CellValue}
 use Rattle.mj_cells.specs.declared.cell.CellWrite.{CellWrite}
 use Rattle.mj_cells.specs.Cell.{key_cmp, same_key}
@@ -38,6 +39,20 @@ safe_cells m = collect (λ k (s : Slot). s.safe) m
 
 abbrev pub early_slots : Slots → Map key_cmp CellValue
 early_slots m = collect (λ k s. early_in s) m
+
+-- a slot's early cell
+abbrev pub early_entry : CellKey → Slot → Option CellValue
+early_entry k s = early_in s
+
+-- whether a key is a dentry's or a head's
+abbrev pub is_of_dir : CellKey → Bool
+is_of_dir (Dentry dir name) = true
+is_of_dir (DirHead dir) = true
+is_of_dir _ = false
+
+-- whether it is one, or is none
+abbrev pub is_of : Bool → CellKey → Bool
+is_of dirs k = if is_of_dir k then dirs else not dirs
 
 abbrev pub rooms : Slots → Set key_cmp
 rooms m = collect (λ k (s : Slot). Some tt) m

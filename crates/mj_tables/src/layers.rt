@@ -1,21 +1,23 @@
 //! A safe table, and over it the groups of writes that are not safe yet.
 
-ghost use Rattle.std.specs.Prelude.{◌≡◌, ◌<◌, [], ◌∷◌, ◌++◌, map, IfOk, OnOk, OnErr, option_map};
+ghost use Rattle.std.specs.Prelude.{◌≡◌, ◌<◌, [], ◌∷◌, ◌++◌, map, filter, IfOk, OnOk, OnErr, option_map};
 ghost use Rattle.std.specs.Option.{option_copied};
 ghost use Rattle.std.specs.List.Sorted.{IsPermutation};
-ghost use Rattle.mj_maps.specs.Map.{get, entries};
+ghost use Rattle.mj_maps.specs.Map.{get, entries, picked};
+ghost use Rattle.mj_cells.specs.declared.cell.CellKey.{CellKey};
+ghost use Rattle.mj_cells.specs.declared.cell.CellValue.{CellValue};
 ghost use Rattle.mj_cells.specs.declared.cell.CellWrite.{CellWrite};
 ghost use Rattle.mj_cells.specs.Next.{cell_of};
 ghost use Rattle.mj_cells.specs.Table.{put_all};
 ghost use Rattle.mj_tables.specs.Layered.{all_writes, writes_key, early_cells, next_there, EndBelow, HasRoom, ended, unended};
-ghost use Rattle.mj_tables.specs.Slots.{slots_of, early_slots};
+ghost use Rattle.mj_tables.specs.Slots.{slots_of, early_slots, early_entry, is_of};
 
 use crate::group::Group;
 use crate::room::make_all_room;
 use crate::safe_cells::SafeCells;
 use crate::settling::{project_group, settle_ended};
 use crate::slot::Slot;
-use crate::there::There;
+use crate::there::{There, is_of_dir};
 use mj_base::Items;
 use mj_cells::{CellKey, CellValue, CellView, CellWrite, compare};
 use std::alloc::{AllocError, Global};
@@ -104,7 +106,7 @@ impl Layers {
         ensures { IfOk result (λ v. map cell_of v.items ≡ entries (early_cells self.now)) }
     {
         let mut found = early_views(alloc, &self.slots)?;
-        found.sort_unstable_by(|a, b| compare(a.key, b.key));
+        found.sort_by(|a, b| compare(a.key, b.key))?;
         Ok(found)
     }
 
@@ -148,19 +150,43 @@ impl Layers {
     }
 }
 
-// The early cells of slots, in no order.
+// Whether a key is of a directory, or is not.
+fn is_of(dirs: bool, key: &CellKey) -> bool
+    ensures { result ≡ is_of dirs key.now }
+{
+    if is_of_dir(key) { dirs } else { !dirs }
+}
+
+// Adds the early cells of one kind, those of directories or the others.
+fn push_views<'a>(
+    slots: &'a HashMap<CellKey, Slot>,
+    dirs: bool,
+    found: &mut Vec<CellView<'a>>,
+) -> Result<(), AllocError>
+    ensures { OnOk result (map cell_of found.new.items ≡ map cell_of found.old.items ++ filter (λ (e : CellKey × CellValue). is_of dirs e.0) (picked early_entry slots.now.entries)) }
+{
+    for (key, slot) in slots.iter() {
+        if !is_of(dirs, key) {
+            continue;
+        }
+        if let Some(value) = slot.early() {
+            found.push(CellView { key, value })?;
+        }
+    }
+    Ok(())
+}
+
+// The early cells, those of directories before the others: each of the two mostly came in the order of its keys, and a sort takes what is in order as
+// it is.
 fn early_views(
     alloc: Global,
     slots: &HashMap<CellKey, Slot>,
 ) -> Result<Vec<CellView<'_>>, AllocError>
     ensures { IfOk result (λ v. IsPermutation (entries (early_slots (slots_of slots.now))) (map cell_of v.items)) }
 {
-    let mut found = Vec::new(alloc);
-    for (key, slot) in slots.iter() {
-        if let Some(value) = slot.early() {
-            found.push(CellView { key, value })?;
-        }
-    }
+    let mut found = Vec::with_capacity(alloc, slots.len())?;
+    push_views(slots, true, &mut found)?;
+    push_views(slots, false, &mut found)?;
     Ok(found)
 }
 

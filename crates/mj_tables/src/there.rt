@@ -4,9 +4,9 @@ ghost use Rattle.std.specs.Prelude.{◌≡◌, IfOk, OnOk, filter};
 ghost use Rattle.std.specs.Option.{option_copied, option_map};
 ghost use Rattle.std.specs.Bound.{bound_map};
 ghost use Rattle.mj_cells.specs.Next.{is_above, bound_above, cell_of, first_of};
-ghost use Rattle.mj_tables.specs.Slots.{slots_of};
+ghost use Rattle.mj_tables.specs.Slots.{slots_of, is_of_dir};
 ghost use Rattle.mj_tables.specs.Listed.{has_key, there_along, AreThere, Adds, Drops, AllStay};
-ghost use Rattle.mj_tables.specs.There.{is_dentry, dentries_above, Rises};
+ghost use Rattle.mj_tables.specs.There.{dirs_above, Rises};
 
 use crate::listing::first_there;
 use crate::slot::Slot;
@@ -16,11 +16,11 @@ use std::collections::{BTreeSet, HashMap};
 use std::marker::Model;
 use std::ops::Bound;
 
-/// Keys in order. Those that are no dentry are few and asked for often, so they stand in a set of their own,
-/// and no look-up of them goes down the tree of all dentries.
+/// Keys in order. Those of no directory, which are of clients, are few and asked for often, so they stand in a set of their own, and
+/// no look-up of them goes down the tree of all dentries and heads.
 #[derive(Drop)]
 pub struct There {
-    dentries: BTreeSet<CellKey>,
+    dirs: BTreeSet<CellKey>,
     others: BTreeSet<CellKey>,
 }
 
@@ -44,28 +44,28 @@ impl There {
     pub fn of_slots(alloc: Global, slots: &HashMap<CellKey, Slot>) -> Result<There, AllocError>
         ensures { IfOk result (λ there. AreThere (slots_of slots.now) there) }
     {
-        let mut dentries = Vec::new(alloc);
+        let mut dirs = Vec::new(alloc);
         let mut others = Vec::new(alloc);
         for (key, slot) in slots.iter() {
             if slot.there().is_some() {
                 let copy = key.copy(alloc)?;
-                if is_dentry(key) {
-                    dentries.push(copy)?;
+                if is_of_dir(key) {
+                    dirs.push(copy)?;
                 } else {
                     others.push(copy)?;
                 }
             }
         }
-        let dentries = dentries.into_iter().collect(alloc)?;
+        let dirs = dirs.into_iter().collect(alloc)?;
         let others = others.into_iter().collect(alloc)?;
-        Ok(There { dentries, others })
+        Ok(There { dirs, others })
     }
 
     pub fn contains(&self, key: &CellKey) -> bool
         ensures { result ≡ has_key self.now key.now }
     {
-        if is_dentry(key) {
-            self.dentries.contains(key)
+        if is_of_dir(key) {
+            self.dirs.contains(key)
         } else {
             self.others.contains(key)
         }
@@ -75,8 +75,8 @@ impl There {
         ensures ok { OnOk result (Adds self.old key self.new) }
         ensures stay { AllStay self.old self.new }
     {
-        if is_dentry(&key) {
-            self.dentries.insert(key)?;
+        if is_of_dir(&key) {
+            self.dirs.insert(key)?;
         } else {
             self.others.insert(key)?;
         }
@@ -86,8 +86,8 @@ impl There {
     pub fn remove(&mut self, key: &CellKey)
         ensures { Drops self.old key.now self.new }
     {
-        if is_dentry(key) {
-            self.dentries.remove(key);
+        if is_of_dir(key) {
+            self.dirs.remove(key);
         } else {
             self.others.remove(key);
         }
@@ -102,9 +102,9 @@ impl There {
         ensures cell { option_map cell_of result ≡ first_of (there_along (slots_of slots.now) (filter (is_above (option_copied after.entry)) self.now.keys)) }
         ensures rises { Rises self.now }
     {
-        if begins_at_dentries(after) {
-            let dentries = self.dentries.range((start_above(after), Bound::Unbounded));
-            if let Some(cell) = first_there(slots, dentries) {
+        if begins_at_dirs(after) {
+            let dirs = self.dirs.range((start_above(after), Bound::Unbounded));
+            if let Some(cell) = first_there(slots, dirs) {
                 return Some(cell);
             }
         }
@@ -113,18 +113,19 @@ impl There {
     }
 }
 
-fn is_dentry(key: &CellKey) -> bool
-    ensures { result ≡ is_dentry key.now }
+/// Whether a key is a dentry's or a head's.
+pub fn is_of_dir(key: &CellKey) -> bool
+    ensures { result ≡ is_of_dir key.now }
 {
-    matches!(key, CellKey::Dentry(..))
+    matches!(key, CellKey::Dentry(..) | CellKey::DirHead(_))
 }
 
-// Whether a dentry's key can be above.
-fn begins_at_dentries(after: Option<&CellKey>) -> bool
-    ensures { result ≡ dentries_above (option_copied after.entry) }
+// Whether a directory's key can be above.
+fn begins_at_dirs(after: Option<&CellKey>) -> bool
+    ensures { result ≡ dirs_above (option_copied after.entry) }
 {
     match after {
-        Some(key) => is_dentry(key),
+        Some(key) => is_of_dir(key),
         None => true,
     }
 }

@@ -12,9 +12,9 @@ use Rattle.mj_tables.proofs.layers.Layers.cells.Goals as goal
 pub returns : goal.returns
 returns c =
     let m = early_slots (slots_of c.self.inside.slots) in
-    sorted_views m c.sort_unstable_by.new.self.items
-    (IsPermutation-trans (entries m) (map cell_of c.in_ok-found.found.items) (map cell_of c.sort_unstable_by.new.self.items) c.in_ok-found.ensures
-    (IsPermutation-map cell_of c.in_ok-found.found.items c.sort_unstable_by.new.self.items c.sort_unstable_by.ensures.permutation))
-    (c.sort_unstable_by.ensures.sorted key_below (ranks_by exact_key.total key_of) (answers_always _ _ _ (λ f a r g h. search rules)))
+    sorted_views m c.sort_by.new.self.items
+    (IsPermutation-trans (entries m) (map cell_of c.in_ok-found.found.items) (map cell_of c.sort_by.new.self.items) c.in_ok-found.ensures
+    (IsPermutation-map cell_of c.in_ok-found.found.items c.sort_by.new.self.items c.sort_by.ensures.permutation))
+    (c.in_ok-sort_by.ensures.sorted key_below (ranks_by exact_key.total key_of) (answers_always _ _ _ (λ f a r g h. search rules)))
     ∙ ap entries (early_is (slots_of c.self.inside.slots) c.self.inside.groups.items c.self.invariant.laid)
     ∙ ap (λ l. entries (early_cells l)) c.self.view_is

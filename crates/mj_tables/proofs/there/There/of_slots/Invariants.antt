@@ -4,4 +4,4 @@ use Rattle.mj_tables.proofs.Found.{AreFound}
 use Rattle.mj_tables.proofs.there.There.of_slots.Given as goal
 
 abbrev pub invariant-loop-key : goal.invariant-loop-key
-invariant-loop-key l = AreFound l.slots.entries l.key-iterator (record { keys = l.dentries.items ++ l.others.items }) × HasKind true (record { keys = l.dentries.items }) × HasKind false (record { keys = l.others.items })
+invariant-loop-key l = AreFound l.slots.entries l.key-iterator (record { keys = l.dirs.items ++ l.others.items }) × HasKind true (record { keys = l.dirs.items }) × HasKind false (record { keys = l.others.items })
