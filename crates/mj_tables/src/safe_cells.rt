@@ -64,6 +64,13 @@ impl SafeCells {
         }
     }
 
+    /// Makes room for so many more cells at once, so that the map does not grow again and again.
+    pub fn reserve(&mut self, more: usize) -> Result<(), AllocError>
+        ensures same { self.new ≡ self.old }
+    {
+        self.slots.reserve(more)
+    }
+
     /// Writes a cell.
     pub fn put(&mut self, w: CellWrite) -> Result<(), AllocError>
         requires { WriteFits w }
