@@ -14,3 +14,4 @@ pub mod Turns
 pub mod Headline
 pub mod ImageFile
 pub mod Image
+pub mod Buffered

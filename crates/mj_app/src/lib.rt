@@ -3,6 +3,9 @@
 #![tactic(auto)]
 
 mod answer;
+mod buffered;
+#[cfg(test)]
+mod buffered_tests;
 mod call;
 mod chronicle;
 mod formatting;
@@ -17,6 +20,7 @@ mod say;
 mod status;
 mod words;
 
+pub use buffered::Buffered;
 pub use call::mdjournal_call;
 pub use image::mdjournal_image_call;
 pub use laws::{a_formatted_image_begins, a_written_image_rests};
