@@ -1,7 +1,7 @@
 -- Slots that hold safe values alone, through a write.
-use Rattle.std.proofs.Common.{◌≡◌, Some, None, refl, sym, ap, subst, ◌∙◌, inl, inr}
+use Rattle.std.proofs.Common.{◌≡◌, None, refl, sym, ap, subst, ◌∙◌, inl, inr}
 use Rattle.std.specs.Option.{option_and_then}
-use Rattle.mj_maps.specs.Map.{get, insert}
+use Rattle.mj_maps.specs.Map.{insert}
 use Rattle.mj_maps.proofs.MapLaws.{cases_key, insert_same, insert_other, collect-insert_some}
 use Rattle.mj_cells.specs.declared.cell.CellKey.{CellKey}
 use Rattle.mj_cells.specs.declared.cell.CellValue.{CellValue}
@@ -21,12 +21,6 @@ module _ (m : Slots) (k : CellKey) (v : CellValue) where
     | inl e ↦ ap (ahead_at (insert m k (safe_slot v))) e ∙ ap (option_and_then (λ (s : Slot). s.ahead)) (insert_same exact_key m k (safe_slot v))
     | inr other ↦ ap (option_and_then (λ (s : Slot). s.ahead)) (insert_other exact_key m k (safe_slot v) q other) ∙ none q
   ]
-
-  -- a slot that takes the value has nothing over it
-  pub written_over : (s : Slot) → AllSafe m → get m k ≡ Some s → ◌≡◌ {A = Slot} (record { safe = Some v; ahead = s.ahead }) (safe_slot v)
-  written_over s all is =
-      let none : s.ahead ≡ None = sym (ap (option_and_then (λ (x : Slot). x.ahead)) is) ∙ all.laid.ahead k in
-      λ i. record { safe = Some v; ahead = none i }
 
   pub safe_put : AllSafe m → Fits k v → AllSafe (insert m k (safe_slot v))
   safe_put all fits = record {

@@ -77,11 +77,6 @@ impl SafeCells {
         ensures ok { OnOk result (self.new ≡ insert self.old w.key w.value) }
         ensures err { OnErr result (self.new ≡ self.old) }
     {
-        // A key that has a slot takes the value in place, so that no slot is made and moved.
-        if let Some(slot) = self.slots.get_mut(&w.key) {
-            slot.safe = Some(w.value);
-            return Ok(());
-        }
         let slot = Slot {
             safe: Some(w.value),
             ahead: None,
