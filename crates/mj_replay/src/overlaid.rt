@@ -91,8 +91,10 @@ pub fn lay_events(
     ensures lumps { IfOk result (λ x. (next : ℕ) → none_strange next x.lumps ≡ lumps_known rank next (journal_writes events.items)) }
 {
     let formatted = new_cells(alloc, rank)?;
+    let mut cells = SafeCells::of_table(alloc, formatted)?;
+    cells.reserve(events.len())?;
     let mut found = Overlaid {
-        cells: SafeCells::of_table(alloc, formatted)?,
+        cells,
         lumps: LumpDirs::new(),
     };
     for e in events {
