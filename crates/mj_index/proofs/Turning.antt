@@ -39,8 +39,8 @@ use Rattle.mj_index.specs.Places.{dentry_key}
 use Rattle.mj_index.specs.Known.{Inodes, nothing, known_at, is_dir_at, held_by, altered, as_dir}
 use Rattle.mj_index.specs.Said.{is_the, is_dentry_in, named_in, dir_named, record_of, record_held, full_inode, value_or_gone, cell_before, cell_after, left_dirs, led_dirs, written_dirs}
 use Rattle.mj_index.specs.Indexed.{place_key, full_at, IsMidway, IsIndexed}
-use Rattle.mj_index.specs.Following.{HasRoom, HasRoomFor, HasRoomAt, early_value, followed, all_followed, all_dirs_set, SameIndex}
-use Rattle.mj_index.specs.Changes.{Change, changes_over, changed_key, dirs_out, all_changed}
+use Rattle.mj_index.specs.Following.{HasRoom, HasRoomFor, HasRoomAt, early_value, taken, put_in, followed, all_followed, all_dirs_set, SameIndex}
+use Rattle.mj_index.specs.Changes.{Change, where_said, changes_over, changed_key, dirs_out, all_changed}
 use Rattle.mj_index.specs.Course.{AreOnce, AreSingle, HasCounts, IsOnCourse}
 use Rattle.mj_index.specs.Gentle.{LeadsTo, IsNamed, IsBare, HasKeptWay, IsGentle}
 use Rattle.mj_index.specs.Gentle.HasKeptWay.{goes_down}
@@ -542,19 +542,35 @@ counts_spare m x rank dirs more mid spare =
 
 -- ---- changes
 
-left_over : (dirs : ℕ → Bool) (old : CellKey → CellValue) (ws : List CellWrite) → dirs_out dirs (changes_over old ws) ≡ left_dirs dirs old ws
-left_over dirs old [] = refl
-left_over dirs old (w ∷ ws) = ap (cons_option (dir_named dirs (cell_before old w))) (left_over dirs old ws)
+said_named : (dirs : ℕ → Bool) (old : CellKey → CellValue) (k : CellKey) → dir_named dirs (k, where_said old k) ≡ dir_named dirs (k, old k)
+said_named dirs old (key.Dentry d n) = refl
+said_named dirs old (key.DirHead d) = refl
+said_named dirs old key.NextIno = refl
+said_named dirs old (key.Session c) = refl
+said_named dirs old (key.Done c t) = refl
+said_named dirs old (key.OpenOf c i) = refl
 
-changed_over : (rank : ℕ) (old : CellKey → CellValue) (ws : List CellWrite) (x : Index) → all_changed rank (changes_over old ws) x ≡ all_followed rank old ws x
+said_taken : (rank : ℕ) (old : CellKey → CellValue) (k : CellKey) (x : Index) → taken rank (k, where_said old k) x ≡ taken rank (k, old k) x
+said_taken rank old (key.Dentry d n) x = refl
+said_taken rank old (key.DirHead d) x = refl
+said_taken rank old key.NextIno x = refl
+said_taken rank old (key.Session c) x = refl
+said_taken rank old (key.Done c t) x = refl
+said_taken rank old (key.OpenOf c i) x = refl
+
+left_over : (dirs : ℕ → Bool) (old : CellKey → CellValue) (ws : List CellWrite) → dirs_out dirs (changes_over (where_said old) ws) ≡ left_dirs dirs old ws
+left_over dirs old [] = refl
+left_over dirs old (w ∷ ws) = λ i. cons_option (said_named dirs old w.key i) (left_over dirs old ws i)
+
+changed_over : (rank : ℕ) (old : CellKey → CellValue) (ws : List CellWrite) (x : Index) → all_changed rank (changes_over (where_said old) ws) x ≡ all_followed rank old ws x
 changed_over rank old [] x = refl
-changed_over rank old (w ∷ ws) x = changed_over rank old ws (followed rank old w x)
+changed_over rank old (w ∷ ws) x = ap (λ (y : Index). all_changed rank (changes_over (where_said old) ws) (put_in rank (cell_after w) y)) (said_taken rank old w.key x) ∙ changed_over rank old ws (followed rank old w x)
 
 keys_over : (old : CellKey → CellValue) (ws : List CellWrite) → map changed_key (changes_over old ws) ≡ map (λ (w : CellWrite). w.key) ws
 keys_over old [] = refl
 keys_over old (w ∷ ws) = ap (λ ks. w.key ∷ ks) (keys_over old ws)
 
-pub left_changes : (dirs : ℕ → Bool) (old : CellKey → CellValue) (ws : List CellWrite) (cs : List Change) → cs ≡ changes_over old ws → dirs_out dirs cs ≡ left_dirs dirs old ws
+pub left_changes : (dirs : ℕ → Bool) (old : CellKey → CellValue) (ws : List CellWrite) (cs : List Change) → cs ≡ changes_over (where_said old) ws → dirs_out dirs cs ≡ left_dirs dirs old ws
 left_changes dirs old ws cs over = ap (dirs_out dirs) over ∙ left_over dirs old ws
 
 pub keys_changes : (old : CellKey → CellValue) (ws : List CellWrite) (cs : List Change) → cs ≡ changes_over old ws → map changed_key cs ≡ map (λ (w : CellWrite). w.key) ws
@@ -563,7 +579,7 @@ keys_changes old ws cs over = ap (map changed_key) over ∙ keys_over old ws
 -- the index that followed a gentle group
 pub group_done : (rank : ℕ) (l : Layered) (ws : List CellWrite) (cs : List Change) (x y z : Index) (left led : List ℕ) → IsGentleTurn x.known l ws left led → IsIndexed rank (early_cells l) x
     → own_damage rank (table_of (early_cells l)) ≡ None → own_damage rank (table_of (put_all (early_cells l) ws)) ≡ None → SameIndex x y → HasRoom y.known ws → HasSpare x (length ws)
-    → cs ≡ changes_over (early_value l) ws → SameIndex (turned rank cs left led y) z → IsIndexed rank (put_all (early_cells l) ws) z
+    → cs ≡ changes_over (where_said (early_value l)) ws → SameIndex (turned rank cs left led y) z → IsIndexed rank (put_all (early_cells l) ws) z
 group_done rank l ws cs x y z left led turn mid none none_after same room spare over follows =
     same_midway rank (is_among (reachable (table_of (put_all (early_cells l) ws)))) (put_all (early_cells l) ws) [] (all_dirs_set true led (all_dirs_set false left (all_followed rank (early_value l) ws y))) z
     (subst (λ (v : Index). SameIndex (all_dirs_set true led (all_dirs_set false left v)) z) (ap (λ (ds : List Change). all_changed rank ds y) over ∙ changed_over rank (early_value l) ws y) follows)

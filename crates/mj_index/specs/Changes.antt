@@ -1,8 +1,10 @@
 -- Writes with the values that their keys had before, and what follows from these alone.
-use Rattle.std.specs.Prelude.{ℕ, Bool, List, [], ◌∷◌, map, filter_map}
+use Rattle.std.specs.Prelude.{ℕ, Bool, true, false, List, [], ◌∷◌, map, filter_map, if◌then◌else◌}
 use Rattle.std.specs.Option.{option_copied}
 use Rattle.mj_cells.specs.declared.cell.CellKey.{CellKey}
+use Rattle.mj_cells.specs.declared.cell.CellKey.TheVariants.{Dentry, Session, OpenOf}
 use Rattle.mj_cells.specs.declared.cell.CellValue.{CellValue}
+use Rattle.mj_cells.specs.declared.cell.CellValue.TheVariants.{Gone}
 use Rattle.mj_cells.specs.declared.cell.CellWrite.{CellWrite}
 use Rattle.mj_judge.specs.Parts.{Cell}
 use Rattle.mj_index.specs.Said.{value_or_gone, dir_named, cell_after}
@@ -16,6 +18,17 @@ Change = CellWrite × CellValue
 -- the value before is gone where there is none
 abbrev pub change_of : ChangeView → Change
 change_of c = (c.write.now, value_or_gone (option_copied c.before))
+
+-- whether the value of a key says anything of inodes or sessions
+abbrev pub says : CellKey → Bool
+says (Dentry dir name) = true
+says (Session client) = true
+says (OpenOf client ino) = true
+says _ = false
+
+-- the values, as gone where they say nothing
+abbrev pub where_said : (CellKey → CellValue) → CellKey → CellValue
+where_said old k = if says k then old k else Gone
 
 -- the writes, each with the value of its key
 abbrev pub changes_over : (CellKey → CellValue) → List CellWrite → List Change

@@ -15,6 +15,8 @@ use Rattle.mj_index.specs.Said.{dir_named, cell_after, left_dirs, led_dirs, writ
 use Rattle.mj_index.specs.Following.{early_value, all_dirs_set}
 use Rattle.mj_index.specs.Changes.{Change, all_changed}
 use Rattle.mj_index.specs.declared.index.Index.{Index}
+use Rattle.mj_index.specs.declared.turn.Keys.{Keys}
+use Rattle.mj_index.specs.declared.turn.Keys.TheVariants.{Few, Many}
 use Rattle.mj_index.specs.Course.{AreOnce}
 use Rattle.mj_index.specs.Gentle.{HasKeptWay, LeadsTo}
 
@@ -28,6 +30,15 @@ has_key s k = list_any (λ x. same_key k x) s.keys
 pub record AreKeysOf (s : BTreeSet CellKey) (ws : List CellWrite) : Type 0 where
   pub once : AreOnce ws
   pub are : (k : CellKey) → has_key s k ≡ writes_key k ws
+
+-- the keys that are written, few or many
+abbrev pub keys_have : Keys → CellKey → Bool
+keys_have (Few ws) k = writes_key k ws.now
+keys_have (Many s) k = has_key s k
+
+pub record AreTheKeys (keys : Keys) (ws : List CellWrite) : Type 0 where
+  pub once : AreOnce ws
+  pub are : (k : CellKey) → keys_have keys k ≡ writes_key k ws
 
 -- a dentry that is not written leads from this directory to that one
 pub record HasPlaceKept (t : Table) (is_written : ℕ × List ℕ → Bool) (i d : ℕ) : Type 0 where

@@ -11,10 +11,10 @@ ghost use Rattle.mj_index.specs.Known.{known_at, is_dir_at};
 ghost use Rattle.mj_index.specs.Indexed.{place_key};
 ghost use Rattle.mj_index.specs.Said.{dir_named, left_dirs, led_dirs, written_dirs};
 ghost use Rattle.mj_index.specs.Following.{early_value};
-ghost use Rattle.mj_index.specs.Changes.{change_of, changes_over, cell_out, dirs_out};
+ghost use Rattle.mj_index.specs.Changes.{change_of, where_said, changes_over, cell_out, dirs_out};
 ghost use Rattle.mj_index.specs.Course.{AreOnce};
 ghost use Rattle.mj_index.specs.Gentle.{HasKeptWay};
-ghost use Rattle.mj_index.specs.Turning.{has_key, all_pass, is_bare, leaves_well, LeadsWell, IsGentleTurn, AreKeysOf, HasPlaceKept};
+ghost use Rattle.mj_index.specs.Turning.{keys_have, all_pass, is_bare, leaves_well, LeadsWell, IsGentleTurn, AreKeysOf, AreTheKeys, HasPlaceKept};
 
 use crate::change::ChangeView;
 use crate::known::{KnownInodes, is_same};
@@ -74,23 +74,36 @@ fn differ(ws: &[CellWrite]) -> bool
     true
 }
 
-// Whether no key is written twice.
-fn are_once(alloc: Global, ws: &[CellWrite]) -> Result<bool, AllocError>
-    ensures { IfOk result (λ b. b ≡ true → AreOnce ws.now) }
-{
-    if ws.len() <= FEW {
-        return Ok(differ(ws));
-    }
-    match written_keys(alloc, ws)? {
-        Some(_) => Ok(true),
-        None => Ok(false),
-    }
+// The keys of writes, of which it is asked which they are. Few are compared one by one, and many stand in a set.
+#[derive(Drop)]
+enum Keys<'a> {
+    Few(&'a [CellWrite]),
+    Many(BTreeSet<CellKey>),
 }
 
-fn has_key(keys: &BTreeSet<CellKey>, key: &CellKey) -> bool
-    ensures { result ≡ has_key keys.now key.now }
-{
-    keys.contains(key)
+impl<'a> Keys<'a> {
+    // Those of these writes, where none is written twice.
+    fn of_writes(alloc: Global, ws: &'a [CellWrite]) -> Result<Option<Keys<'a>>, AllocError>
+        ensures { IfOk result (λ o. IfSome o (λ keys. AreTheKeys keys ws.now)) }
+    {
+        if ws.len() > FEW {
+            return Ok(written_keys(alloc, ws)?.map(Keys::Many));
+        }
+        if differ(ws) {
+            Ok(Some(Keys::Few(ws)))
+        } else {
+            Ok(None)
+        }
+    }
+
+    fn have(&self, key: &CellKey) -> bool
+        ensures { result ≡ keys_have self.now key.now }
+    {
+        match self {
+            Keys::Few(ws) => is_written(ws, key),
+            Keys::Many(keys) => keys.contains(key),
+        }
+    }
 }
 
 fn has(dirs: &BTreeSet<Ino>, dir: Ino) -> bool
@@ -206,11 +219,11 @@ fn names(value: &CellValue, dir: Ino) -> bool
 }
 
 // The directory that has the full dentry of this one, where that is early and not written.
-fn above(known: &KnownInodes, layers: &Layers, keys: &BTreeSet<CellKey>, dir: Ino) -> Option<Ino>
-    ensures { IfSome result (HasPlaceKept (table_of (early_cells layers.now)) (λ q. has_key keys.now (dentry_key q)) dir) }
+fn above(known: &KnownInodes, layers: &Layers, keys: &Keys<'_>, dir: Ino) -> Option<Ino>
+    ensures { IfSome result (HasPlaceKept (table_of (early_cells layers.now)) (λ q. keys_have keys.now (dentry_key q)) dir) }
 {
     let key = full_key(known, dir)?;
-    if has_key(keys, key) {
+    if keys.have(key) {
         return None;
     }
     let value = layers.early(key)?;
@@ -223,8 +236,8 @@ fn above(known: &KnownInodes, layers: &Layers, keys: &BTreeSet<CellKey>, dir: In
 }
 
 // Whether full dentries that are not written lead from the root to the directory. No way is longer than inodes are known.
-fn keeps_way(known: &KnownInodes, layers: &Layers, keys: &BTreeSet<CellKey>, dir: Ino) -> bool
-    ensures { result ≡ true → HasKeptWay (table_of (early_cells layers.now)) (λ q. has_key keys.now (dentry_key q)) dir }
+fn keeps_way(known: &KnownInodes, layers: &Layers, keys: &Keys<'_>, dir: Ino) -> bool
+    ensures { result ≡ true → HasKeptWay (table_of (early_cells layers.now)) (λ q. keys_have keys.now (dentry_key q)) dir }
 {
     let mut at = dir;
     'up: for _ in 0..known.len() {
@@ -242,12 +255,12 @@ fn keeps_way(known: &KnownInodes, layers: &Layers, keys: &BTreeSet<CellKey>, dir
 fn lead_well(
     known: &KnownInodes,
     layers: &Layers,
-    keys: &BTreeSet<CellKey>,
+    keys: &Keys<'_>,
     written: &BTreeSet<Ino>,
     left: &BTreeSet<Ino>,
     w: &CellWrite,
 ) -> bool
-    ensures { result ≡ true → LeadsWell known.now (table_of (early_cells layers.now)) (λ q. has_key keys.now (dentry_key q)) (is_among written.now.keys) (is_among left.now.keys) w.now }
+    ensures { result ≡ true → LeadsWell known.now (table_of (early_cells layers.now)) (λ q. keys_have keys.now (dentry_key q)) (is_among written.now.keys) (is_among left.now.keys) w.now }
 {
     match (dir_of(&w.key), dir_named(known, &w.key, &w.value)) {
         (Some(dir), Some(below)) => {
@@ -264,12 +277,12 @@ fn lead_well(
 fn leads_well(
     known: &KnownInodes,
     layers: &Layers,
-    keys: &BTreeSet<CellKey>,
+    keys: &Keys<'_>,
     written: &BTreeSet<Ino>,
     left: &BTreeSet<Ino>,
     ws: &[CellWrite],
 ) -> bool
-    ensures { result ≡ true → AllByRecursion (LeadsWell known.now (table_of (early_cells layers.now)) (λ q. has_key keys.now (dentry_key q)) (is_among written.now.keys) (is_among left.now.keys)) ws.now }
+    ensures { result ≡ true → AllByRecursion (LeadsWell known.now (table_of (early_cells layers.now)) (λ q. keys_have keys.now (dentry_key q)) (is_among written.now.keys) (is_among left.now.keys)) ws.now }
 {
     for w in ws {
         if !lead_well(known, layers, keys, written, left, w) {
@@ -291,12 +304,12 @@ fn turns_well(
     requires led { turn.now.led.items ≡ led_dirs (is_dir_at known.now) ws.now }
     ensures { IfOk result (λ b. b ≡ true → IsGentleTurn known.now layers.now ws.now turn.now.left.items turn.now.led.items) }
 {
-    if turn.left.is_empty() && turn.led.is_empty() {
-        return are_once(alloc, ws);
-    }
-    let Some(keys) = written_keys(alloc, ws)? else {
+    let Some(keys) = Keys::of_writes(alloc, ws)? else {
         return Ok(false);
     };
+    if turn.left.is_empty() && turn.led.is_empty() {
+        return Ok(true);
+    }
     let dirs = written_dirs(alloc, ws)?;
     let written = set_of(alloc, &dirs)?;
     let left = set_of(alloc, &turn.left)?;
@@ -315,7 +328,7 @@ pub fn gentle_turn(
     ws: &[CellWrite],
     changes: &[ChangeView<'_>],
 ) -> Result<Option<Turn>, AllocError>
-    requires { map change_of changes.now ≡ changes_over (early_value layers.now) ws.now }
+    requires { map change_of changes.now ≡ changes_over (where_said (early_value layers.now)) ws.now }
     ensures { IfOk result (λ o. IfSome o (λ turn. IsGentleTurn known.now layers.now ws.now turn.left.items turn.led.items)) }
 {
     let turn = Turn {

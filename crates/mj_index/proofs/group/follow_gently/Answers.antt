@@ -1,7 +1,7 @@
 use Rattle.std.proofs.Common.{[], sym, ap, map, ◌∙◌}
 use Rattle.mj_tables.specs.Layered.{early_cells}
 use Rattle.mj_index.specs.Following.{early_value}
-use Rattle.mj_index.specs.Changes.{change_of}
+use Rattle.mj_index.specs.Changes.{change_of, where_said}
 use Rattle.mj_meta.proofs.Pieces.{on_err}
 use Rattle.mj_index.proofs.Course.{same_midway}
 use Rattle.mj_index.proofs.Turning.{keys_changes, group_done}
@@ -13,7 +13,7 @@ returns-in_err-keys-in-Some-clause-err c = on_err c.from_residual-in_err-keys-in
 pub follow_turn-requires : goal.follow_turn-requires
 follow_turn-requires c =
     c.in_ok-keys-in-Some.ensures.keys
-    ∙ sym (keys_changes (early_value c.args.layers.now) c.args.ws.now (map change_of c.deref-in-Some.result.now) (ap (map change_of) c.deref-in-Some.ensures.value ∙ c.in_ok-changes.ensures))
+    ∙ sym (keys_changes (where_said (early_value c.args.layers.now)) c.args.ws.now (map change_of c.deref-in-Some.result.now) (ap (map change_of) c.deref-in-Some.ensures.value ∙ c.in_ok-changes.ensures))
 
 pub returns-in-Some-clause-ok : goal.returns-in-Some-clause-ok
 returns-in-Some-clause-ok c =
