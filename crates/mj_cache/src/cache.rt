@@ -20,12 +20,12 @@ ghost use Rattle.mj_index.specs.Indexed.{IsIndexed};
 ghost use Rattle.mj_tables.specs.Layered.{early_cells as layered_cells};
 
 use crate::plain::plain_tree;
-use crate::ranges::{layers_in_range, writes_in_range};
+use crate::ranges::{cells_in_range, writes_in_range};
 use crate::refusal::CacheRefusal;
 use mj_base::{Ino, RankNo};
 use mj_cells::{CellKey, CellValue, CellView, CellWrite};
-use mj_index::{Index, Sums, early_index, project};
-use mj_judge::own_damage;
+use mj_index::{Index, Sums, index_of, project};
+use mj_judge::{own_damage, reachable};
 use mj_tables::{Layers, SafeCells};
 use mj_tree::PlainTree;
 use std::alloc::{AllocError, Global};
@@ -54,18 +54,20 @@ impl Model for Cache {
     ghost invariant = { IsSound };
 }
 
-// The index of the early cells, or their first damage.
+// The index of the early cells, or their first damage. The cells are put in order once.
 fn examine(alloc: Global, rank: RankNo, layers: &Layers) -> Result<Index, CacheRefusal>
     ensures sound { OnOk result (own_damage rank (table_of (layered_cells layers.now)) ≡ None) }
     ensures index { IfOk result (IsIndexed rank (layered_cells layers.now)) }
     ensures range { OnOk result (AllInRange (layered_cells layers.now)) }
     ensures refused { IfErr result (IsRefusal (own_damage rank (table_of (layered_cells layers.now)))) }
 {
-    if let Some(damage) = own_damage(alloc, rank, layers)? {
+    let cells = layers.cells(alloc)?;
+    let dirs = reachable(alloc, &cells)?;
+    if let Some(damage) = own_damage(alloc, rank, layers, &dirs, &cells)? {
         return Err(CacheRefusal::NotTree(damage));
     }
-    layers_in_range(alloc, layers)?;
-    let index = early_index(alloc, rank, layers)?;
+    cells_in_range(&cells);
+    let index = index_of(alloc, rank, &dirs, &cells)?;
     Ok(index)
 }
 

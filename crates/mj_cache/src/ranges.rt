@@ -1,15 +1,12 @@
 //! What the types of keys and values say of cells.
 
-ghost use Rattle.std.specs.Prelude.{◌<◌, ◌^◌, OnOk, map};
+ghost use Rattle.std.specs.Prelude.{◌<◌, ◌^◌, map};
 ghost use Rattle.std.specs.List.{AllByRecursion};
 ghost use Rattle.mj_cells.specs.declared.cell.CellKey.TheVariants.{NextIno};
 ghost use Rattle.mj_cells.specs.Next.{cell_of};
-ghost use Rattle.mj_tables.specs.Layered.{early_cells};
-ghost use Rattle.mj_cache.specs.Ranges.{InRange, WriteInRange, CellInRange, AllInRange};
+ghost use Rattle.mj_cache.specs.Ranges.{InRange, WriteInRange, CellInRange};
 
 use mj_cells::{CellKey, CellValue, CellView, CellWrite};
-use mj_tables::Layers;
-use std::alloc::{AllocError, Global};
 
 // A number that is read is one of its type.
 fn is_number(n: u64)
@@ -49,19 +46,11 @@ pub fn writes_in_range(ws: &[CellWrite])
     }
 }
 
-fn cells_in_range(cells: &[CellView<'_>])
+/// Each cell has a name that is one, and numbers of their types.
+pub fn cells_in_range(cells: &[CellView<'_>])
     ensures { AllByRecursion CellInRange (map cell_of cells.now) }
 {
     for cell in cells {
         in_range(cell.key, cell.value);
     }
-}
-
-/// Each early cell has a name that is one, and numbers of their types.
-pub fn layers_in_range(alloc: Global, layers: &Layers) -> Result<(), AllocError>
-    ensures { OnOk result (AllInRange (early_cells layers.now)) }
-{
-    let cells = layers.cells(alloc)?;
-    cells_in_range(&cells);
-    Ok(())
 }

@@ -1,8 +1,9 @@
 -- Going over cells with one more.
-use Rattle.std.proofs.Common.{◌≡◌, ℕ, suc, ◌+◌, ◌<◌, Bool, true, false, List, [], ◌∷◌, ◌++◌, map, drop, drop-cons, add-one, slice_index_or, length, refl, sym, ap, ◌∙◌, append_assoc}
+use Rattle.std.proofs.Common.{◌≡◌, ℕ, suc, ◌+◌, ◌<◌, ◌≤◌, Bool, true, false, List, [], ◌∷◌, ◌++◌, map, drop, drop-cons, add-one, slice_index_or, length, refl, sym, ap, ◌∙◌, append_assoc}
 use Rattle.std.specs.declared.cmp.Ordering.{Ordering}
 use Rattle.std.specs.declared.cmp.Ordering.TheVariants.{Less, Equal, Greater}
 use Rattle.std.specs.FinMap.Entries.{by_order, put}
+use Rattle.std.proofs.lemmas.List.{drop_all}
 use Rattle.mj_maps.specs.Map.{Map, entries, insert}
 use Rattle.mj_maps.proofs.MapLaws.{entries-insert}
 use Rattle.mj_cells.specs.declared.cell.CellKey.{CellKey}
@@ -48,3 +49,7 @@ pub one_write : (cells more : List CellView) (all : Map key_cmp CellValue) (ws :
 one_write cells more all ws i w h is e (m, (was, leads)) =
     let next : drop i ws ≡ w ∷ drop (i + 1) ws = rw add-one (drop-cons ws i w h ∙ ap (λ (y : CellWrite). y ∷ drop (suc i) ws) (sym is)) in
     (insert m w.key w.value, (e ∙ ap (put key_cmp w.key w.value) was ∙ sym (entries-insert exact_key m w.key w.value), sym (ap (put_all m) next) ∙ leads))
+
+-- once no write is left, these are the cells of the map of all writes
+pub midway_ends : (cells : List CellView) (all : Map key_cmp CellValue) (ws : List CellWrite) (i : ℕ) → length ws ≤ i → Midway cells (drop i ws) all → map cell_of cells ≡ entries all
+midway_ends cells all ws i past (m, (was, leads)) = was ∙ ap entries (sym (ap (put_all m) (drop_all i ws past)) ∙ leads)

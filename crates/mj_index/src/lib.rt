@@ -14,4 +14,4 @@ mod whole;
 pub use group::project;
 pub use index::{Index, Sums};
 pub use known::{FullPlace, Known, KnownInodes};
-pub use whole::early_index;
+pub use whole::index_of;

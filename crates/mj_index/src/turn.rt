@@ -87,7 +87,10 @@ impl<'a> Keys<'a> {
         ensures { IfOk result (λ o. IfSome o (λ keys. AreTheKeys keys ws.now)) }
     {
         if ws.len() > FEW {
-            return Ok(written_keys(alloc, ws)?.map(Keys::Many));
+            return match written_keys(alloc, ws)? {
+                Some(keys) => Ok(Some(Keys::Many(keys))),
+                None => Ok(None),
+            };
         }
         if differ(ws) {
             Ok(Some(Keys::Few(ws)))

@@ -8,6 +8,7 @@ ghost use Rattle.mj_cells.specs.Next.{cell_of};
 ghost use Rattle.mj_cells.specs.Table.{table_of, put_all};
 ghost use Rattle.mj_tables.specs.Layered.{early_cells};
 ghost use Rattle.mj_judge.specs.Own.{own_damage};
+ghost use Rattle.mj_judge.specs.Reached.{AreDirs};
 ghost use Rattle.mj_index.specs.Indexed.{IsIndexed};
 ghost use Rattle.mj_index.specs.Following.{no_index, with_dirs, PutsNew};
 
@@ -53,26 +54,21 @@ fn are_countable(cells: &[CellView<'_>])
     let _ = cells.len();
 }
 
-/// The index of the table of these cells, where it has no damage.
-pub fn index_of(alloc: Global, rank: RankNo, cells: &[CellView<'_>]) -> Result<Index, AllocError>
-    ensures { IfOk result (λ x. (m : Map key_cmp CellValue) → map cell_of cells.now ≡ entries m → own_damage rank (table_of m) ≡ None → IsIndexed rank m x) }
+/// The index of the table whose cells and reachable directories these are, where it has no damage.
+pub fn index_of(
+    alloc: Global,
+    rank: RankNo,
+    dirs: &BTreeSet<Ino>,
+    cells: &[CellView<'_>],
+) -> Result<Index, AllocError>
+    ensures { IfOk result (λ x. (m : Map key_cmp CellValue) → map cell_of cells.now ≡ entries m → AreDirs (table_of m) dirs.now.keys → own_damage rank (table_of m) ≡ None → IsIndexed rank m x) }
 {
     are_countable(cells);
-    let dirs = reachable(alloc, cells)?;
-    let mut index = index_of_dirs(alloc, &dirs)?;
+    let mut index = index_of_dirs(alloc, dirs)?;
     for cell in cells {
         put_new(alloc, &mut index, rank, cell)?;
     }
     Ok(index)
-}
-
-/// The index of the early cells.
-pub fn early_index(alloc: Global, rank: RankNo, layers: &Layers) -> Result<Index, AllocError>
-    requires { own_damage rank (table_of (early_cells layers.now)) ≡ None }
-    ensures { IfOk result (IsIndexed rank (early_cells layers.now)) }
-{
-    let cells = layers.cells(alloc)?;
-    index_of(alloc, rank, &cells)
 }
 
 /// The index once these writes are over the early cells. Time grows with the table, and with it once more for each write.
@@ -89,5 +85,6 @@ pub fn next_index(
     for w in ws {
         cells = put_view(alloc, &cells, &w.key, &w.value)?;
     }
-    index_of(alloc, rank, &cells)
+    let dirs = reachable(alloc, &cells)?;
+    index_of(alloc, rank, &dirs, &cells)
 }

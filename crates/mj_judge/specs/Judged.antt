@@ -37,8 +37,12 @@ entry_times cs dirs d = times d (filter_map (link_dir dirs) cs)
 abbrev pub opens : List Cell → List (ℕ × ℕ)
 opens cs = filter_map open_place cs
 
+-- how often the inode of each of these opens stands there
+abbrev pub place_times : List (ℕ × ℕ) → ℕ → ℕ
+place_times os i = times i (map (λ (o : ℕ × ℕ). o.1) os)
+
 abbrev pub open_times : List Cell → ℕ → ℕ
-open_times cs i = times i (map (λ (o : ℕ × ℕ). o.1) (opens cs))
+open_times cs = place_times (opens cs)
 
 abbrev pub replies : List Cell → List ((ℕ × ℕ) × ℕ)
 replies cs = filter_map done_entry cs

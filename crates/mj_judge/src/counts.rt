@@ -24,6 +24,14 @@ impl Counts {
         }
     }
 
+    // With room for so many numbers.
+    fn with_room(alloc: Global, room: usize) -> Result<Counts, AllocError>
+        ensures { IfOk result (λ c. (k : ℕ) → count_in c k ≡ 0) }
+    {
+        let kept = HashMap::with_capacity(alloc, room)?;
+        Ok(Counts { kept })
+    }
+
     /// How often a number was counted.
     pub fn count(&self, n: u64) -> u64
         ensures { result ≡ count_in self.now n }
@@ -50,11 +58,11 @@ impl Counts {
         Ok(())
     }
 
-    /// How often each inode stands there.
-    pub fn of_inodes(alloc: Global, inodes: &[Ino]) -> Result<Counts, AllocError>
+    /// How often each inode stands there. There is room at once for `room` inodes that differ.
+    pub fn of_inodes(alloc: Global, room: usize, inodes: &[Ino]) -> Result<Counts, AllocError>
         ensures { IfOk result (λ c. (k : ℕ) → count_in c k ≡ times k inodes.now) }
     {
-        let mut counts = Counts::new(alloc);
+        let mut counts = Counts::with_room(alloc, room)?;
         for ino in inodes {
             counts.add(ino.0)?;
         }

@@ -7,7 +7,7 @@ ghost use Rattle.mj_cells.specs.Next.{cell_of};
 ghost use Rattle.mj_tables.specs.Layered.{early_cells};
 ghost use Rattle.mj_recovery.specs.Damage.{least, twice, headless, first_open, over, over_entries};
 ghost use Rattle.mj_judge.specs.Rows.{count_in, version_at, kept_of};
-ghost use Rattle.mj_judge.specs.Judged.{held, lone, wrong_counts, all_dirs, beyond, next_of, wrong_opens, wrong_replies, too_much, kept_inodes, found_damage, entry_times, link_times, open_times};
+ghost use Rattle.mj_judge.specs.Judged.{held, lone, wrong_counts, all_dirs, beyond, next_of, wrong_opens, wrong_replies, too_much, kept_inodes, found_damage, opens, entry_times, link_times, place_times, open_times};
 
 use crate::counts::Counts;
 use crate::dentries::{dentry_dirs, full_inodes, kind_inodes, link_dirs, link_inodes, remotes};
@@ -52,7 +52,7 @@ fn missing_head(
 fn repeated(alloc: Global, inodes: &[Ino]) -> Result<Vec<Ino>, AllocError>
     ensures { IfOk result (λ v. v.items ≡ twice inodes.now) }
 {
-    let counts = Counts::of_inodes(alloc, inodes)?;
+    let counts = Counts::of_inodes(alloc, inodes.len(), inodes)?;
     twice(alloc, &counts, inodes)
 }
 
@@ -177,17 +177,18 @@ fn wrong_opens(
     rank: RankNo,
     layers: &Layers,
     dirs: &BTreeSet<Ino>,
+    places: &[(ClientId, Ino)],
     cells: &[CellView<'_>],
 ) -> Result<Vec<(ClientId, Ino)>, AllocError>
+    requires { places.now ≡ opens (map cell_of cells.now) }
     ensures { IfOk result (λ v. v.items ≡ wrong_opens rank (early_cells layers.now) (map cell_of cells.now) dirs.now.keys) }
 {
-    let opens = opens(alloc, cells)?;
-    if opens.is_empty() {
+    if places.is_empty() {
         return Ok(Vec::new(alloc));
     }
     let inodes = kind_inodes(alloc, rank, dirs, Kind::File, cells)?;
-    let files = Counts::of_inodes(alloc, &inodes)?;
-    bad_opens(alloc, layers, &files, &opens)
+    let files = Counts::of_inodes(alloc, inodes.len(), &inodes)?;
+    bad_opens(alloc, layers, &files, places)
 }
 
 fn bad_open(
@@ -195,11 +196,13 @@ fn bad_open(
     rank: RankNo,
     layers: &Layers,
     dirs: &BTreeSet<Ino>,
+    places: &[(ClientId, Ino)],
     cells: &[CellView<'_>],
 ) -> Result<Option<Damage>, AllocError>
+    requires { places.now ≡ opens (map cell_of cells.now) }
     ensures { IfOk result (λ o. o ≡ first_open (wrong_opens rank (early_cells layers.now) (map cell_of cells.now) dirs.now.keys)) }
 {
-    let found = wrong_opens(alloc, rank, layers, dirs, cells)?;
+    let found = wrong_opens(alloc, rank, layers, dirs, places, cells)?;
     first_open(alloc, &found)
 }
 
@@ -230,14 +233,21 @@ fn bad_session(
     }
 }
 
+// How often the inode of each of these opens stands there.
+fn place_counts(alloc: Global, places: &[(ClientId, Ino)]) -> Result<Counts, AllocError>
+    ensures { IfOk result (λ c. (k : ℕ) → count_in c k ≡ place_times places.now k) }
+{
+    let inodes = opened_inodes(alloc, places)?;
+    let counts = Counts::of_inodes(alloc, inodes.len(), &inodes)?;
+    Ok(counts)
+}
+
 /// How often the inode of each open stands there.
 pub fn open_counts(alloc: Global, cells: &[CellView<'_>]) -> Result<Counts, AllocError>
     ensures { IfOk result (λ c. (k : ℕ) → count_in c k ≡ open_times (map cell_of cells.now) k) }
 {
-    let opens = opens(alloc, cells)?;
-    let inodes = opened_inodes(alloc, &opens)?;
-    let counts = Counts::of_inodes(alloc, &inodes)?;
-    Ok(counts)
+    let places = opens(alloc, cells)?;
+    place_counts(alloc, &places)
 }
 
 /// How many links name each inode.
@@ -249,7 +259,7 @@ pub fn link_counts(
     ensures { IfOk result (λ c. (k : ℕ) → count_in c k ≡ link_times (map cell_of cells.now) dirs.now.keys k) }
 {
     let inodes = link_inodes(alloc, dirs, cells)?;
-    let counts = Counts::of_inodes(alloc, &inodes)?;
+    let counts = Counts::of_inodes(alloc, inodes.len(), &inodes)?;
     Ok(counts)
 }
 
@@ -262,7 +272,7 @@ pub fn entry_counts(
     ensures { IfOk result (λ c. (k : ℕ) → count_in c k ≡ entry_times (map cell_of cells.now) dirs.now.keys k) }
 {
     let inodes = link_dirs(alloc, dirs, cells)?;
-    let counts = Counts::of_inodes(alloc, &inodes)?;
+    let counts = Counts::of_inodes(alloc, dirs.len(), &inodes)?;
     Ok(counts)
 }
 
@@ -271,11 +281,11 @@ fn kept_among(
     alloc: Global,
     links: &Counts,
     inodes: &[Ino],
-    cells: &[CellView<'_>],
+    places: &[(ClientId, Ino)],
 ) -> Result<Vec<Ino>, AllocError>
-    ensures { IfOk result (λ v. v.items ≡ kept_of (count_in links.now) (open_times (map cell_of cells.now)) inodes.now) }
+    ensures { IfOk result (λ v. v.items ≡ kept_of (count_in links.now) (place_times places.now) inodes.now) }
 {
-    let opens = open_counts(alloc, cells)?;
+    let opens = place_counts(alloc, places)?;
     kept_of(alloc, links, &opens, inodes)
 }
 
@@ -290,7 +300,8 @@ pub fn kept_inodes(
 {
     let links = link_counts(alloc, dirs, cells)?;
     let inodes = full_inodes(alloc, rank, dirs, cells)?;
-    kept_among(alloc, &links, &inodes, cells)
+    let places = opens(alloc, cells)?;
+    kept_among(alloc, &links, &inodes, &places)
 }
 
 fn over_entries(
@@ -319,14 +330,16 @@ fn too_much(
     dirs: &BTreeSet<Ino>,
     links: &Counts,
     inodes: &[Ino],
+    places: &[(ClientId, Ino)],
     cells: &[CellView<'_>],
 ) -> Result<Option<u64>, AllocError>
+    requires { places.now ≡ opens (map cell_of cells.now) }
     ensures { IfOk result (λ o. o ≡ too_much (count_in links.now) inodes.now (map cell_of cells.now) dirs.now.keys) }
 {
     if let Some(n) = over_entries(alloc, dirs, cells)? {
         return Ok(Some(n));
     }
-    let kept = kept_among(alloc, links, inodes, cells)?;
+    let kept = kept_among(alloc, links, inodes, places)?;
     if let Some(n) = over(MOST_INODES, kept.len()) {
         return Ok(Some(n));
     }
@@ -334,8 +347,7 @@ fn too_much(
     if let Some(n) = over(MOST_SESSIONS, sessions.len()) {
         return Ok(Some(n));
     }
-    let opens = opens(alloc, cells)?;
-    Ok(over(MOST_OPENS, opens.len()))
+    Ok(over(MOST_OPENS, places.len()))
 }
 
 fn over_limit(
@@ -343,12 +355,14 @@ fn over_limit(
     dirs: &BTreeSet<Ino>,
     links: &Counts,
     inodes: &[Ino],
+    places: &[(ClientId, Ino)],
     cells: &[CellView<'_>],
 ) -> Result<Option<Damage>, AllocError>
-    requires { (k : ℕ) → count_in links.now k ≡ link_times (map cell_of cells.now) dirs.now.keys k }
+    requires links { (k : ℕ) → count_in links.now k ≡ link_times (map cell_of cells.now) dirs.now.keys k }
+    requires places { places.now ≡ opens (map cell_of cells.now) }
     ensures { IfOk result (λ o. o ≡ option_map damage.OverLimit (too_much (link_times (map cell_of cells.now) dirs.now.keys) inodes.now (map cell_of cells.now) dirs.now.keys)) }
 {
-    match too_much(alloc, dirs, links, inodes, cells)? {
+    match too_much(alloc, dirs, links, inodes, places, cells)? {
         Some(n) => Ok(Some(Damage::OverLimit(n))),
         None => Ok(None),
     }
@@ -382,11 +396,12 @@ pub fn found_damage(
     if let Some(damage) = bad_next(alloc, rank, layers, &inodes, cells)? {
         return Ok(Some(damage));
     }
-    if let Some(damage) = bad_open(alloc, rank, layers, dirs, cells)? {
+    let places = opens(alloc, cells)?;
+    if let Some(damage) = bad_open(alloc, rank, layers, dirs, &places, cells)? {
         return Ok(Some(damage));
     }
     if let Some(damage) = bad_session(alloc, layers, cells)? {
         return Ok(Some(damage));
     }
-    over_limit(alloc, dirs, &links, &inodes, cells)
+    over_limit(alloc, dirs, &links, &inodes, &places, cells)
 }

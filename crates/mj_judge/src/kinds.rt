@@ -47,7 +47,7 @@ fn kind_counts(
     ensures { IfOk result (λ c. (k : ℕ) → count_in c k ≡ times k (filter_map (kind_ino (stray_ino rank ∷ dirs.now.keys) kind) (map cell_of cells.now))) }
 {
     let inodes = kind_inodes(alloc, rank, dirs, kind, cells)?;
-    let counts = Counts::of_inodes(alloc, &inodes)?;
+    let counts = Counts::of_inodes(alloc, inodes.len(), &inodes)?;
     Ok(counts)
 }
 

@@ -87,7 +87,8 @@ fn reach(alloc: Global, edges: Vec<(Ino, Ino)>) -> Result<BTreeSet<Ino>, AllocEr
     Ok(dirs)
 }
 
-/// The reachable directories of the table of these cells.
+/// The reachable directories of the table of these cells, in time that grows with them as a search tree's does, where inodes are
+/// above those of their directories.
 pub fn reachable(alloc: Global, cells: &[CellView<'_>]) -> Result<BTreeSet<Ino>, AllocError>
     ensures { IfOk result (λ dirs. (m : Map key_cmp CellValue) → map cell_of cells.now ≡ entries m → AreDirs (table_of m) dirs.keys) }
 {

@@ -7,4 +7,4 @@ use Rattle.mj_judge.proofs.Counted.{if_ok, agree}
 use Rattle.mj_judge.proofs.judge.wrong_opens.Goals as goal
 
 pub returns : goal.returns
-returns c = if_ok c.bad_opens.result _ _ (λ v is. is ∙ (λ j. bad_opens (oldest_at (early_cells c.args.layers.now)) (agree _ _ (λ k. ap (nat_lt 0) (c.in_ok-files.ensures k ∙ ap (times k) (c.deref.ensures.value ∙ c.in_ok-inodes.ensures))) j) ((c.deref-2.ensures.value ∙ c.in_ok-opens.ensures) j))) c.bad_opens.ensures
+returns c = if_ok c.bad_opens.result _ _ (λ v is. is ∙ (λ j. bad_opens (oldest_at (early_cells c.args.layers.now)) (agree _ _ (λ k. ap (nat_lt 0) (c.in_ok-files.ensures k ∙ ap (times k) (c.deref.ensures.value ∙ c.in_ok-inodes.ensures))) j) (c.requires j))) c.bad_opens.ensures

@@ -1,9 +1,0 @@
-use Rattle.std.proofs.Common.{map, ap, subst, ◌∙◌}
-use Rattle.std.specs.List.{AllByRecursion}
-use Rattle.mj_cells.specs.Next.{cell_of}
-use Rattle.mj_cache.specs.Ranges.{CellInRange}
-use Rattle.mj_cache.proofs.RangesKept.{range-entries}
-use Rattle.mj_cache.proofs.ranges.layers_in_range.Goals as goal
-
-pub returns : goal.returns
-returns c = range-entries _ (subst (AllByRecursion CellInRange) (ap (map cell_of) c.deref.ensures.value ∙ c.in_ok-cells.ensures) c.cells_in_range.ensures)
