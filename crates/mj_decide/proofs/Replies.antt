@@ -1,5 +1,5 @@
 -- A client's kept replies, as the cells of their keys.
-use Rattle.std.proofs.Common.{◌≡◌, ℕ, ◌+◌, ◌≤◌, Bool, true, false, not, cond, T, List, [], ◌∷◌, ◌++◌, length, map, Option, Some, None, refl, sym, ap, subst, ◌∙◌, ◌⊎◌, inl, inr, append_assoc, arith}
+use Rattle.std.proofs.Common.{◌≡◌, ℕ, ◌+◌, ◌≤◌, Bool, true, false, not, cond, T, List, [], ◌∷◌, ◌++◌, length, map, Option, Some, None, refl, sym, ap, subst, ◌∙◌, ◌⊎◌, inl, inr, append_assoc, append-nil, arith}
 use Rattle.std.specs.Prelude.{nat_lt, nat_le, ◌==◌, if◌then◌else◌, is_some, unwrap_or}
 use Rattle.std.specs.declared.cmp.Ordering.{Ordering}
 use Rattle.std.specs.declared.cmp.Ordering.TheVariants.{Less, Equal, Greater}
@@ -192,11 +192,14 @@ one_not_below : (b : Bool) (x bound : ℕ) → nat_lt x bound ≡ false → filt
 one_not_below true x bound h = ap (λ b. cond b (x ∷ []) []) h
 one_not_below false x bound h = refl
 
-not_below : (y k bound : ℕ) → nat_lt y bound ≡ false → nat_lt y k ≡ true → nat_lt k bound ≡ false
+not_below : (y k bound : ℕ) → bound ≤ y + 1 → nat_lt y k ≡ true → nat_lt k bound ≡ false
 not_below y k bound h up = grind arith
 
--- what is above a number that isn't below the bound isn't either
-none_below : (bound y : ℕ) (ks : List ℕ) → nat_lt y bound ≡ false → filter (λ tid. nat_lt tid bound) (filter (nat_lt y) ks) ≡ []
+near : (y bound : ℕ) → nat_lt y bound ≡ false → bound ≤ y + 1
+near y bound h = let le = ltb-false y bound h in omega (arith, le)
+
+-- what is above a number isn't below the number after it
+none_below : (bound y : ℕ) (ks : List ℕ) → bound ≤ y + 1 → filter (λ tid. nat_lt tid bound) (filter (nat_lt y) ks) ≡ []
 none_below bound y [] h = refl
 none_below bound y (k ∷ ks) h = elim (nat_lt y k) as (λ b. nat_lt y k ≡ b → filter (λ tid. nat_lt tid bound) (cond b (k ∷ filter (nat_lt y) ks) (filter (nat_lt y) ks)) ≡ []) [
   | true ↦ λ up. ap (λ b. cond b (k ∷ filter (λ tid. nat_lt tid bound) (filter (nat_lt y) ks)) (filter (λ tid. nat_lt tid bound) (filter (nat_lt y) ks))) (not_below y k bound h up) ∙ none_below bound y ks h
@@ -251,7 +254,15 @@ module _ (c : CacheValue) (is : HasTree c) (client oldest : ℕ) (own : oldest_o
   no_own_below bound h = sym (
       sym (ap (filter (λ tid. nat_lt tid bound)) from_own)
       ∙ filter-append (λ tid. nat_lt tid bound) (cond (is_some (kept_reply (early_tree c) client oldest)) (oldest ∷ []) []) (filter (nat_lt oldest) all)
-      ∙ (λ i. one_not_below (is_some (kept_reply (early_tree c) client oldest)) oldest bound h i ++ none_below bound oldest all h i))
+      ∙ (λ i. one_not_below (is_some (kept_reply (early_tree c) client oldest)) oldest bound h i ++ none_below bound oldest all (near oldest bound h) i))
+
+  -- only the oldest number is below the one after it
+  pub own_alone : (bound : ℕ) → nat_lt oldest bound ≡ true → bound ≤ oldest + 1
+      → cond (is_some (kept_reply (early_tree c) client oldest)) (oldest ∷ []) [] ≡ filter (λ tid. nat_lt tid bound) all
+  own_alone bound h after =
+      sym (append-nil (cond (is_some (kept_reply (early_tree c) client oldest)) (oldest ∷ []) []))
+      ∙ ap (λ xs. cond (is_some (kept_reply (early_tree c) client oldest)) (oldest ∷ []) [] ++ xs) (sym (none_below bound oldest all after))
+      ∙ own_below bound h
 
 -- where a client has no session nothing is kept
 pub nothing_kept : (s : PlainState) (client : ℕ) → oldest_of (get s.sessions client) ≡ None → [] ≡ tids (kept_of s client)
@@ -287,7 +298,7 @@ pub next_not_below : (s : PlainState) (client after y bound : ℕ) → next_tid 
 next_not_below s client after y bound f h =
     ap (filter (λ tid. nat_lt tid bound)) (above_next nat_lt number_order after (tids (kept_of s client)) y (tids_ascend (kept_of s client)) f)
     ∙ ap (λ b. cond b (y ∷ filter (λ tid. nat_lt tid bound) (filter (nat_lt y) (tids (kept_of s client)))) (filter (λ tid. nat_lt tid bound) (filter (nat_lt y) (tids (kept_of s client))))) h
-    ∙ none_below bound y (tids (kept_of s client)) h
+    ∙ none_below bound y (tids (kept_of s client)) (near y bound h)
 
 pub tids_fewer : (s : PlainState) (client after y : ℕ) → next_tid s client after ≡ Some y
     → length (filter (nat_lt after) (tids (kept_of s client))) ≡ length (filter (nat_lt y) (tids (kept_of s client))) + 1

@@ -1,6 +1,6 @@
 //! What is read of a cache by going over keys.
 
-ghost use Rattle.std.specs.Prelude.{◌≡◌, ◌<◌, ◌∷◌, ◌++◌, [], ℕ, Some, true, cond, filter, is_some, nat_lt, nat_le, option_map, IfOk, IfSome, IsTrue, OnOk};
+ghost use Rattle.std.specs.Prelude.{◌≡◌, ◌+◌, ◌<◌, ◌∷◌, ◌++◌, [], ℕ, Some, true, cond, filter, is_some, nat_lt, nat_le, option_map, IfOk, IfSome, IsTrue, OnOk};
 ghost use Rattle.std.specs.Option.{option_copied};
 ghost use Rattle.mj_maps.specs.Map.{get, count};
 ghost use Rattle.mj_tree.specs.State.{is_dir, opens_of};
@@ -78,8 +78,28 @@ fn session_tids(
     Ok(found)
 }
 
-// Those of them that are below a bound. Numbers ascend, so the first that isn't below it ends the walk.
-fn session_tids_below(
+/// The numbers of a client's kept replies, ascending. There are at most 64.
+pub fn kept_tids(alloc: Global, cache: &Cache, client: ClientId) -> Result<Vec<Tid>, AllocError>
+    ensures { IfOk result (λ found. found.items ≡ tids (kept_of (early_tree cache.now) client)) }
+{
+    has_tree(cache);
+    match session_oldest(cache, client) {
+        Some(oldest) => session_tids(alloc, cache, client, oldest),
+        None => Ok(Vec::new(alloc)),
+    }
+}
+
+// Whether no number above this one is below the bound.
+fn no_more_below(tid: Tid, bound: Tid) -> bool
+    ensures { result ≡ nat_le bound (tid + 1) }
+{
+    bound.0 <= tid.0.saturating_add(1)
+}
+
+/// The numbers of a client's kept replies that are below a bound, ascending, where its session has this oldest number.
+/// It takes a step for each of them and one more, a look-up alone where the bound is the number after the oldest, and
+/// nothing where it is the oldest.
+pub fn kept_tids_below(
     alloc: Global,
     cache: &Cache,
     client: ClientId,
@@ -94,7 +114,11 @@ fn session_tids_below(
         return Ok(Vec::new(alloc));
     }
     let mut found = tids_at(alloc, cache, client, oldest)?;
+    if no_more_below(oldest, bound) {
+        return Ok(found);
+    }
     let mut after = oldest;
+    // Numbers ascend, so the first that isn't below the bound ends the walk.
     while let Some(tid) = next_tid(cache, client, after) {
         if tid >= bound {
             return Ok(found);
@@ -103,34 +127,6 @@ fn session_tids_below(
         after = tid;
     }
     Ok(found)
-}
-
-/// The numbers of a client's kept replies, ascending. There are at most 64.
-pub fn kept_tids(alloc: Global, cache: &Cache, client: ClientId) -> Result<Vec<Tid>, AllocError>
-    ensures { IfOk result (λ found. found.items ≡ tids (kept_of (early_tree cache.now) client)) }
-{
-    has_tree(cache);
-    match session_oldest(cache, client) {
-        Some(oldest) => session_tids(alloc, cache, client, oldest),
-        None => Ok(Vec::new(alloc)),
-    }
-}
-
-/// The numbers of a client's kept replies that are below a bound, ascending. It takes a step for each of them and one
-/// more, and none where the bound is the oldest number of the session.
-pub fn kept_tids_below(
-    alloc: Global,
-    cache: &Cache,
-    client: ClientId,
-    bound: Tid,
-) -> Result<Vec<Tid>, AllocError>
-    ensures { IfOk result (λ found. found.items ≡ filter (λ tid. nat_lt tid bound) (tids (kept_of (early_tree cache.now) client))) }
-{
-    has_tree(cache);
-    match session_oldest(cache, client) {
-        Some(oldest) => session_tids_below(alloc, cache, client, oldest, bound),
-        None => Ok(Vec::new(alloc)),
-    }
 }
 
 // 1 where the reply to this number is kept, and else 0.

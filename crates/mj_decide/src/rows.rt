@@ -33,11 +33,12 @@ fn is_full(cache: &Cache, dir: Ino) -> bool
     cache.entries_of(dir) >= MOST_ENTRIES
 }
 
-fn has_all_inodes(cache: &Cache) -> bool
+fn has_all_inodes(cache: &Cache, next: Ino) -> bool
     requires tree { HasTree cache.now }
+    requires next { next ≡ (early_tree cache.now).next }
     ensures { result ≡ has_all_inodes (early_tree cache.now) }
 {
-    cache.sums().inodes >= MOST_INODES || next_ino(cache).0 == u64::MAX
+    cache.sums().inodes >= MOST_INODES || next.0 == u64::MAX
 }
 
 // Whether a link may stand here.
@@ -81,10 +82,11 @@ pub fn make(
 {
     let place = place(alloc, cache, path, EEXIST)?;
     at_new(alloc, cache, &place)?;
-    if has_all_inodes(cache) {
+    let next = next_ino(cache);
+    if has_all_inodes(cache, next) {
         return Err(Stop::Refused(ENOSPC));
     }
-    Ok((next_ino(cache), Change::Begin { place, attributes }))
+    Ok((next, Change::Begin { place, attributes }))
 }
 
 #[tactic(auto, unfolding(mj_tree::specs::Row::link))]

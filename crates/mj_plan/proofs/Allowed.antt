@@ -18,9 +18,9 @@ use Rattle.mj_tree.specs.Row.{Effect, is_full, has_all_inodes, most_inodes, most
 use Rattle.mj_tree.specs.Answer.{decision}
 use Rattle.mj_delta.proofs.Decided.{meant}
 
--- a new inode is not the last number, an inode that gets a link has room for it, and a link that goes is there
+-- a new inode is the next and not the last number, an inode that gets a link has room for it, and a link that goes is there
 abbrev pub Allowed : PlainState → Effect → Type 0
-Allowed s (Ok (i, change.Begin q a)) = (s.next == 2 ^ 64 - 1) ≡ false
+Allowed s (Ok (i, change.Begin q a)) = (i ≡ s.next) × ((i == 2 ^ 64 - 1) ≡ false)
 Allowed s (Ok (i, change.Link q j)) = link_count s i < most_links
 Allowed s (Ok (i, change.Unlink q j)) = get s.links q ≡ Some i
 Allowed s (Ok (i, change.Replace q p j k)) = get s.links p ≡ Some k
@@ -58,7 +58,7 @@ module _ (s : PlainState) where
   make_allowed : (path : Path) (a : Attributes) → IsAllowed s (make s path a)
   unfolding make
   make_allowed path a = bind_allowed (place s path 17) _ (λ q _. seq_allowed (at_new s q) _ (refuse_allowed (has_all_inodes s) 28 _ (λ g.
-      record { it = or_none (nat_le most_inodes (len s.records)) (s.next == 2 ^ 64 - 1) g })))
+      record { it = (refl, or_none (nat_le most_inodes (len s.records)) (s.next == 2 ^ 64 - 1) g) })))
 
   link_allowed : (from to : Path) → IsAllowed s (link s from to)
   unfolding link
@@ -118,5 +118,5 @@ module _ (s : PlainState) where
   pub allowed : (r : ClientRequest) (i : ℕ) (change : Change) → decision s r ≡ Accepted i change → Allowed s (Ok (i, change))
   allowed r i change d = subst (Allowed s) (meant s r (Accepted i change) d).done (effect_allowed r r.op).it
 
-  pub next_more : s.next < 2 ^ 64 → (s.next == 2 ^ 64 - 1) ≡ false → s.next + 1 < 2 ^ 64
-  next_more fits e = let apart = eqb-false s.next (2 ^ 64 - 1) e in omega (arith, fits, apart)
+  pub next_more : (i : ℕ) → s.next < 2 ^ 64 → (i ≡ s.next) × ((i == 2 ^ 64 - 1) ≡ false) → i + 1 < 2 ^ 64
+  next_more i fits h = let same = h.0 in let apart = eqb-false i (2 ^ 64 - 1) h.1 in omega (arith, fits, same, apart)

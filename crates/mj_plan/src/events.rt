@@ -19,7 +19,7 @@ use crate::plan_lumps::lumps_of;
 use crate::updates::{Changed, update_of};
 use mj_base::{ClientId, Ino, Items, Name};
 use mj_cache::Cache;
-use mj_decide::{has_tree, is_open, kept_tids, link_count, next_ino};
+use mj_decide::{has_tree, is_open, kept_tids, link_count};
 use mj_event::{Event, SessionEvent, SessionKind};
 use mj_meta::DirLump;
 use mj_recovery::stray_ino;
@@ -161,14 +161,15 @@ fn begin_event(
     alloc: Global,
     cache: &Cache,
     r: &ClientRequest,
+    ino: Ino,
     place: &(Ino, Name),
     attributes: &Attributes,
 ) -> Result<Event, AllocError>
     requires tree { HasTree cache.now }
-    requires more { (early_tree cache.now).next + 1 < 2 ^ 64 }
+    requires next { ino ≡ (early_tree cache.now).next }
+    requires more { ino + 1 < 2 ^ 64 }
     ensures { IfOk result (λ e. e ≡ begin_event (early_table cache.now) (early_tree cache.now) r.entry.now place.now attributes.now) }
 {
-    let ino = next_ino(cache);
     let changed = Changed {
         next: Some(Ino(ino.0 + 1)),
         opened: None,
@@ -286,7 +287,7 @@ fn change_event(
 {
     match change {
         Change::Nothing => nothing_event(alloc, cache, r, ino),
-        Change::Begin { place, attributes } => begin_event(alloc, cache, r, place, attributes),
+        Change::Begin { place, attributes } => begin_event(alloc, cache, r, ino, place, attributes),
         Change::Link { place, .. } => link_event(alloc, cache, r, place, ino),
         Change::Unlink { place, .. } => unlink_event(alloc, cache, r, place, ino),
         Change::Move { from, to, .. } => move_event(alloc, cache, r, from, to, ino),

@@ -1,11 +1,13 @@
 //! The event of an accepted request, but for what it says of its change.
 
-ghost use Rattle.std.specs.Prelude.{◌≡◌, max, IfOk, Some, None, if◌then◌else◌};
+ghost use Rattle.std.specs.Prelude.{◌≡◌, max, nat_lt, IfOk, Some, None, if◌then◌else◌};
+ghost use Rattle.mj_maps.specs.Map.{get};
 ghost use Rattle.mj_tree.specs.State.{Session};
 ghost use Rattle.mj_cache.specs.Cached.{early_tree};
 ghost use Rattle.mj_event.specs.declared.Event.TheVariants as event;
 ghost use Rattle.mj_machine.specs.Delta.{op_number};
-ghost use Rattle.mj_delta.specs.Events.{own_session, raised_oldest, dropped_replies, update_of};
+ghost use Rattle.mj_delta.specs.Events.{own_session, dropped_replies, update_of};
+ghost use Rattle.mj_delta.specs.TreeOf.{oldest_of};
 ghost use Rattle.mj_decide.specs.HasTree.{HasTree};
 
 use mj_base::{Ino, Items, Tid};
@@ -58,24 +60,11 @@ fn op_number(op: &Op) -> u8
     }
 }
 
-// The oldest number of the client's session; 0 where it has none.
-fn own_oldest(cache: &Cache, r: &ClientRequest) -> Tid
-    requires tree { HasTree cache.now }
-    ensures { result ≡ (own_session (early_tree cache.now) r.entry.now).oldest }
+// The oldest number that the request raises its session's own to, if it does.
+fn raised_oldest(r: &ClientRequest, own: Tid) -> Option<Tid>
+    ensures { result ≡ (if nat_lt own r.entry.now.oldest then Some r.entry.now.oldest else None) }
 {
-    session_oldest(cache, r.client).unwrap_or(Tid(0))
-}
-
-// The oldest number that the request raises the session's to, if it does.
-fn raised_oldest(cache: &Cache, r: &ClientRequest) -> Option<Tid>
-    requires tree { HasTree cache.now }
-    ensures { result ≡ raised_oldest r.entry.now (own_session (early_tree cache.now) r.entry.now) }
-{
-    if own_oldest(cache, r) < r.oldest {
-        Some(r.oldest)
-    } else {
-        None
-    }
+    if own < r.oldest { Some(r.oldest) } else { None }
 }
 
 // The greater number.
@@ -85,17 +74,25 @@ fn later(a: Tid, b: Tid) -> Tid
     if a < b { b } else { a }
 }
 
-// The replies that are no more kept.
+// The replies that are no more kept, where the client's session has this oldest number. Without one none is kept.
 fn dropped_replies(
     alloc: Global,
     cache: &Cache,
     r: &ClientRequest,
+    own: &Option<Tid>,
 ) -> Result<Items<Tid>, AllocError>
     requires tree { HasTree cache.now }
+    requires own { own.now ≡ oldest_of (get (early_tree cache.now).sessions r.now.client) }
     ensures { IfOk result (λ dropped. dropped ≡ dropped_replies r.entry.now (own_session (early_tree cache.now) r.entry.now)) }
 {
-    let oldest = later(own_oldest(cache, r), r.oldest);
-    Ok(Items::from_vec(kept_tids_below(alloc, cache, r.client, oldest)?))
+    match own {
+        Some(oldest) => {
+            let bound = later(*oldest, r.oldest);
+            let dropped = kept_tids_below(alloc, cache, r.client, *oldest, bound)?;
+            Ok(Items::from_vec(dropped))
+        }
+        None => Ok(Items::from_vec(Vec::new(alloc))),
+    }
 }
 
 /// The event of a request that is accepted on an inode.
@@ -109,7 +106,8 @@ pub fn update_of(
     requires tree { HasTree cache.now }
     ensures { IfOk result (λ e. e ≡ event.Update (update_of (early_tree cache.now) r.entry.now ino changed.next changed.opened changed.released changed.lumps.items)) }
 {
-    let dropped = dropped_replies(alloc, cache, r)?;
+    let own = session_oldest(cache, r.client);
+    let dropped = dropped_replies(alloc, cache, r, &own)?;
     let Changed {
         next,
         opened,
@@ -121,7 +119,7 @@ pub fn update_of(
         client: r.client,
         tid: r.tid,
         ino,
-        oldest: raised_oldest(cache, r),
+        oldest: raised_oldest(r, own.unwrap_or(Tid(0))),
         dropped,
         next,
         opened,

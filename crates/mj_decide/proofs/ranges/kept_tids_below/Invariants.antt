@@ -3,7 +3,7 @@ use Rattle.std.specs.Prelude.{filter, nat_lt}
 use Rattle.mj_cache.specs.Cached.{early_tree}
 use Rattle.mj_delta.specs.Events.{tids}
 use Rattle.mj_decide.specs.Reads.{kept_of}
-use Rattle.mj_decide.proofs.ranges.session_tids_below.Given as goal
+use Rattle.mj_decide.proofs.ranges.kept_tids_below.Given as goal
 
 abbrev pub invariant-loop-tid : goal.invariant-loop-tid
 invariant-loop-tid l = l.found.items ++ filter (λ tid. nat_lt tid l.bound) (filter (nat_lt l.after) (tids (kept_of (early_tree l.cache) l.client))) ≡ filter (λ tid. nat_lt tid l.bound) (tids (kept_of (early_tree l.cache) l.client))
