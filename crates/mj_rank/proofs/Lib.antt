@@ -28,3 +28,4 @@ pub mod MountCalls
 pub mod MountSteps
 pub mod MountCuts
 pub mod FormattedRests
+pub mod PastEnd
