@@ -4,8 +4,6 @@
 
 mod answer;
 mod buffered;
-#[cfg(test)]
-mod buffered_tests;
 mod call;
 mod chronicle;
 mod formatting;
@@ -25,6 +23,3 @@ pub use call::mdjournal_call;
 pub use image::mdjournal_image_call;
 pub use laws::{a_formatted_image_begins, a_written_image_rests};
 pub use status::Status;
-
-#[cfg(test)]
-mod tests;

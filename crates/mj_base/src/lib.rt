@@ -14,15 +14,11 @@ mod name;
 mod numbers;
 mod object;
 mod order;
-#[cfg(test)]
-mod outside_tests;
 mod path;
 mod record;
 mod record_grammar;
 mod short_text;
 mod sink;
-#[cfg(test)]
-mod tests;
 
 pub use cursor::{Cursor, Fault, put_u8, put_u16, put_u32, put_u64};
 pub use damage::Damage;

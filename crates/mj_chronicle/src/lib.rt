@@ -8,6 +8,4 @@ mod weight;
 
 pub use chronicle::{Chronicle, MOST_ENTRIES, MOST_WEIGHT};
 pub use law::{an_entry_with_an_end_is_the_last, an_entry_without_an_end_changes_none};
-
-#[cfg(test)]
-mod tests;
+pub use weight::less_weight;

@@ -8,8 +8,6 @@ mod objects;
 mod reading;
 mod refusal;
 mod size;
-#[cfg(test)]
-mod tests;
 mod writing;
 
 pub use law::{image_is_read_again, image_read_is_spelled, names_are_read_again};

@@ -4,5 +4,5 @@ mod Room
 pub mod Out
 pub mod Cuts
 pub mod Kept
-mod Newer
+pub mod Newer
 pub mod Both

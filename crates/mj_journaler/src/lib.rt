@@ -42,6 +42,3 @@ impl From<AllocError> for AppendRefusal {
         AppendRefusal::Memory
     }
 }
-
-#[cfg(test)]
-mod tests;

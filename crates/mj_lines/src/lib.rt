@@ -12,6 +12,3 @@ pub use answer::{Answer, append_turn};
 pub use law::lines_are_read_from_their_spellings;
 pub use line::{Line, read_line};
 pub use script::{ScriptRefusal, read_script};
-
-#[cfg(test)]
-mod tests;

@@ -14,8 +14,6 @@ mod read;
 mod room;
 mod store;
 mod submit;
-#[cfg(test)]
-mod tests;
 
 pub use memory::MemStore;
 pub use mj_store::HeldObject;

@@ -7,6 +7,3 @@ mod run;
 
 pub use chronicle::{ChronicleLine, ChronicleRefusal, read_chronicle};
 pub use run::{ModelEnd, model};
-
-#[cfg(test)]
-mod tests;

@@ -9,6 +9,3 @@ mod refusal;
 pub use probe::probe_end;
 pub use range::read_range;
 pub use refusal::RangeRefusal;
-
-#[cfg(test)]
-mod tests;

@@ -10,8 +10,6 @@ mod laws;
 mod mounting;
 mod rank;
 mod refusal;
-#[cfg(test)]
-mod tests;
 
 pub use answers::{Early, Fault, MountStep, Reaped, Span};
 pub use laws::{

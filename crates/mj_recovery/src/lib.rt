@@ -21,8 +21,6 @@ mod rows;
 mod sessions;
 mod stored;
 mod stream;
-#[cfg(test)]
-mod tests;
 
 pub use cells::{Cells, HeldDentry, HeldEntry};
 pub use inos::{ROOT, first_ino, stray_ino};

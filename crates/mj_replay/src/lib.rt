@@ -16,8 +16,3 @@ pub use journal::read_journal;
 pub use laws::a_history_is_replayed;
 pub use refusal::JournalRefusal;
 pub use replaying::{Replayed, replay};
-
-#[cfg(test)]
-mod journal_tests;
-#[cfg(test)]
-mod replay_tests;

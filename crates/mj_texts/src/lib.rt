@@ -14,6 +14,3 @@ pub use reply::append_reply;
 pub use request::{read_request, read_target};
 pub use text::{Word, append_line, append_number, append_numbers, append_spaced, append_words};
 pub use words::{Words, cut_at, is_all_ascii, is_word, last};
-
-#[cfg(test)]
-mod tests;

@@ -1,0 +1,5 @@
+//! Tests of `mj_recovery`.
+#![tactic(auto)]
+
+#[cfg(test)]
+mod images;

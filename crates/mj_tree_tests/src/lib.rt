@@ -1,0 +1,5 @@
+//! Tests of `mj_tree`.
+#![tactic(auto)]
+
+#[cfg(test)]
+mod requests;
