@@ -3,7 +3,7 @@ use Rattle.std.proofs.Common.{◌≡◌, ℕ, ◌≤◌, ◌⊎◌, inl, inr, �
 use Rattle.mj_base.specs.Counts.{Rose}
 use Rattle.mj_base.specs.Sink.{then_taken}
 use Rattle.mj_base.specs.Files.{FilesByName}
-use Rattle.mj_base.specs.declared.files.TheConstants.{MAX_FILE_BYTES}
+use Rattle.mj_base.specs.declared.limits.TheConstants.{MAX_FILE_BYTES}
 use Rattle.mj_store.specs.Causes.{Listed}
 use Rattle.mj_store.specs.Moves.{Stays}
 use Rattle.mj_store.specs.State.{StoreState}

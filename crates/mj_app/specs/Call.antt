@@ -5,7 +5,7 @@
 use Rattle.std.specs.Prelude.{◌≡◌, ◌⊎◌, ◌≤◌, ℕ, List, length, Option, Some, None, Result, Ok, Err}
 use Rattle.mj_base.specs.Counts.{Rose}
 use Rattle.mj_base.specs.Files.{FilesByName, IfTold}
-use Rattle.mj_base.specs.declared.files.TheConstants.{MAX_FILE_BYTES}
+use Rattle.mj_base.specs.declared.limits.TheConstants.{MAX_FILE_BYTES}
 use Rattle.mj_tree.specs.State.{new_state}
 use Rattle.mj_store.specs.Causes.{Listed}
 use Rattle.mj_store.specs.State.{StoreState}

@@ -2,7 +2,7 @@
 --     HasLines, HasBadLine    by a grammar: the lines of bytes, or the number of the first that is outside
 --     IsScript, IsChronicle   by these two
 use Rattle.std.specs.Prelude.{◌≡◌, ℕ, ◌<◌, ◌≤◌, List, length, Option, None, Some, IsSomeAnd, Result, Ok, Err}
-use Rattle.mj_base.specs.declared.files.TheConstants.{MAX_FILE_BYTES}
+use Rattle.mj_base.specs.declared.limits.TheConstants.{MAX_FILE_BYTES}
 use Rattle.mj_base.specs.Counts.{Rose}
 use Rattle.mj_base.specs.Files.{FilesByName, IfTold}
 use Rattle.mj_lines.specs.Script.{script_of}

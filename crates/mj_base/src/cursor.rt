@@ -1,6 +1,6 @@
 //! Reading numbers and bytes from the front, and writing numbers at the end.
 
-ghost use Rattle.std.specs.Prelude.{◌≡◌, ◌==◌, ◌<◌, ◌↔◌, ◌++◌, ◌∷◌, [], IsNone, OnOk, OnErr, length};
+ghost use Rattle.std.specs.Prelude.{◌≡◌, ◌==◌, ◌<◌, ◌↔◌, ◌++◌, ◌∷◌, [], IsNone, OnOk, OnErr, length, take};
 ghost use Rattle.std.specs.Option.{option_copied};
 ghost use Rattle.mj_base.specs.Reading.{u8_at, u16_at, u32_at, u64_at, bytes_at, two, four, eight};
 ghost use Rattle.mj_base.specs.Cursor.{Takes, Reads};
@@ -9,7 +9,7 @@ use std::alloc::{AllocError, AllocFailed};
 use std::marker::Model;
 
 /// A place in bytes, from which fields are read one after another. Contracts see the bytes that are left.
-#[derive(Debug, Drop)]
+#[derive(Drop)]
 pub struct Cursor<'a> {
     bytes: &'a [u8],
 }
@@ -208,4 +208,20 @@ pub fn put_u64(n: u64, out: &mut Vec<u8>) -> Result<(), AllocError>
     ensures err { OnErr result (out.new.items ≡ out.old.items) }
 {
     out.extend_from_slice(&n.to_le_bytes())
+}
+
+/// The same answer. Where it is an error, what stands behind the first bytes of the buffer is taken back.
+pub fn or_take_back(
+    done: Result<(), AllocError>,
+    before: usize,
+    out: &mut Vec<u8>,
+) -> Result<(), AllocError>
+    ensures same { result ≡ done }
+    ensures ok { OnOk result (out.new.items ≡ out.old.items) }
+    ensures err { OnErr result (out.new.items ≡ take before out.old.items) }
+{
+    if done.is_err() {
+        out.truncate(before);
+    }
+    done
 }

@@ -6,6 +6,7 @@ ghost use Rattle.std.specs.Fmt.{digit_glyph};
 ghost use Rattle.mj_base.specs.Name.{is_plain, escaped, escaped_byte};
 ghost use Rattle.mj_base.specs.PathText.{is_hex, hex_value, escape_of, plain_first, first_byte, unescaped, IsEscapeRefusal};
 
+use crate::cursor::or_take_back;
 use std::alloc::{AllocError, AllocFailed, Global};
 
 /// Why a text stands for no bytes.
@@ -53,10 +54,7 @@ pub fn escape(bytes: &[u8], out: &mut Vec<u8>) -> Result<(), AllocError>
 {
     let before = out.len();
     let done = append_escaped(bytes, out);
-    if done.is_err() {
-        out.truncate(before);
-    }
-    done
+    or_take_back(done, before, out)
 }
 
 fn append_escaped(bytes: &[u8], out: &mut Vec<u8>) -> Result<(), AllocError>

@@ -1,6 +1,7 @@
 //! The calls that are to fail, for what stands in for the outside in a test.
 
-ghost use Rattle.std.specs.Prelude.{◌≡◌, IfOk};
+ghost use Rattle.std.specs.Prelude.{◌≡◌, ◌≤◌, [], true, IfOk};
+ghost use Rattle.mj_base.specs.Counts.{Rose};
 ghost use Rattle.mj_base.specs.FaultPlan.{is_next_failing, after_call, after_fault, new_plan};
 
 use std::alloc::{AllocError, Global};
@@ -34,6 +35,24 @@ impl FaultPlan {
         })
     }
 
+    /// No call is to fail.
+    pub fn none(alloc: Global) -> FaultPlan
+        ensures { result ≡ new_plan [] }
+    {
+        FaultPlan {
+            failing: Vec::new(alloc),
+            calls: 0,
+            faults: 0,
+        }
+    }
+
+    /// How many faults were counted.
+    pub fn faults(&self) -> u64
+        ensures { result ≡ self.now.faults }
+    {
+        self.faults
+    }
+
     pub fn copy(&self, alloc: Global) -> Result<FaultPlan, AllocError>
         ensures { IfOk result (λ plan. plan ≡ self.now) }
     {
@@ -48,6 +67,8 @@ impl FaultPlan {
     pub fn next_fails(&mut self) -> bool
         ensures answer { result ≡ is_next_failing self.old }
         ensures counted { self.new ≡ after_call self.old }
+        ensures cause { result ≡ true → Rose self.old.faults self.new.faults }
+        ensures later { self.old.faults ≤ self.new.faults }
     {
         // past the greatest number no call is listed
         let Some(number) = self.calls.checked_add(1) else {
@@ -63,7 +84,9 @@ impl FaultPlan {
 
     /// Counts a fault that was not planned.
     pub fn count_fault(&mut self)
-        ensures { self.new ≡ after_fault self.old }
+        ensures counted { self.new ≡ after_fault self.old }
+        ensures cause { Rose self.old.faults self.new.faults }
+        ensures later { self.old.faults ≤ self.new.faults }
     {
         self.faults = self.faults.saturating_add(1);
     }

@@ -6,10 +6,8 @@ ghost use Rattle.mj_base.specs.declared.files.FileRefusal.TheVariants.{TooLong, 
 ghost use Rattle.mj_base.specs.Files.{FilesByName, IfTold, IsRefusalOf, with_file};
 ghost use Rattle.mj_base.specs.Counts.{Rose};
 
+use crate::limits::MAX_FILE_BYTES;
 use std::alloc::{AllocError, AllocFailed, Global};
-
-/// The most bytes that a file may have to be read: 1,073,741,824.
-pub const MAX_FILE_BYTES: u64 = 1 << 30;
 
 /// Why a file was not read or written.
 #[derive(Clone, Copy, Debug, PartialEq, Eq)]

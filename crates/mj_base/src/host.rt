@@ -4,7 +4,8 @@
 ghost use Rattle.std.specs.Prelude.{◌≡◌, ◌<◌, ◌≤◌, ℕ, length, vec_len, IfOk, IfSome, IsErrOf, None};
 ghost use Rattle.mj_base.specs.declared.files.FileRefusal.TheVariants.{TooLong};
 
-use crate::files::{FileRefusal, Files, MAX_FILE_BYTES};
+use crate::files::{FileRefusal, Files};
+use crate::limits::MAX_FILE_BYTES;
 use crate::sink::{Sink, SinkFault};
 use std::alloc::Global;
 use std::fs::OpenFile;

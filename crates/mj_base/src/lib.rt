@@ -8,6 +8,7 @@ mod fault_plan;
 mod files;
 mod host;
 mod law;
+mod limits;
 mod list;
 mod memory;
 mod name;
@@ -20,14 +21,20 @@ mod record_grammar;
 mod short_text;
 mod sink;
 
-pub use cursor::{Cursor, Fault, put_u8, put_u16, put_u32, put_u64};
+pub use cursor::{Cursor, Fault, or_take_back, put_u8, put_u16, put_u32, put_u64};
 pub use damage::Damage;
 pub use escapes::{EscapeRefusal, escape, unescape};
 pub use fault_plan::FaultPlan;
-pub use files::{FileRefusal, Files, MAX_FILE_BYTES};
+pub use files::{FileRefusal, Files};
 pub use host::{HostFiles, HostSink};
 pub use law::{
     escapes_are_read_again, names_are_read, paths_are_read_again, records_are_read_again,
+};
+pub use limits::{
+    ENVELOPE, HEADER_BYTES, HEADER_MAGIC, IMAGE_MAGIC, LAST_POSITION, MAX_DIRS, MAX_DROPPED,
+    MAX_ENTRY, MAX_FILE_BYTES, MAX_MODE, MAX_NAME, MAX_OBJECT_SIZE, MAX_PATH, MAX_PAYLOAD,
+    MAX_RANK, MAX_REOPENED, MAX_STRIPE_COUNT, MAX_TARGET, MIN_OBJECT_SIZE, MIN_STRIPE_UNIT,
+    MOST_UNSAFE, POSITIONS_END, SENTINEL, WINDOW,
 };
 pub use list::Items;
 pub use memory::{MemFiles, MemSink};

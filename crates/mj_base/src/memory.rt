@@ -9,7 +9,8 @@ ghost use Rattle.mj_base.specs.FaultPlan.{is_next_failing, after_call, new_plan}
 ghost use Rattle.mj_base.specs.Memory.{files_of, files_plan, taken_by, sink_plan, room_of};
 
 use crate::fault_plan::FaultPlan;
-use crate::files::{FileRefusal, Files, MAX_FILE_BYTES};
+use crate::files::{FileRefusal, Files};
+use crate::limits::MAX_FILE_BYTES;
 use crate::sink::{Sink, SinkFault};
 use std::alloc::{AllocError, Global};
 use std::collections::BTreeMap;

@@ -2,6 +2,7 @@
 
 ghost use Rattle.std.specs.Prelude.{◌≡◌, ◌<◌, ◌≤◌, ◌↔◌, IsNone, IfSome};
 
+use crate::limits::MAX_RANK;
 use std::marker::Model;
 
 /// The number of an inode.
@@ -92,7 +93,7 @@ impl RankNo {
         ensures refused { IsNone result ↔ (15 < n) }
         ensures rank { IfSome result (λ rank. rank ≡ n) }
     {
-        if n <= 15 {
+        if n <= MAX_RANK {
             Some(RankNo { number: n })
         } else {
             None

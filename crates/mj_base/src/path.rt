@@ -4,13 +4,15 @@ ghost use Rattle.std.specs.Prelude.{◌≡◌, ◌++◌, IsTrue, IfOk, IfErr, On
 ghost use Rattle.mj_base.specs.Name.{is_path, path_text};
 ghost use Rattle.mj_base.specs.PathText.{names_of, refusal_at, IsPathRefusal};
 
+use crate::cursor::or_take_back;
 use crate::escapes::{EscapeRefusal, escape, unescape};
+use crate::limits::MAX_PATH;
 use crate::name::{Name, NameRefusal};
 use std::alloc::{AllocError, AllocFailed, Global};
 use std::marker::Model;
 
 /// The names from the root on, at most 64.
-#[derive(Debug, Drop)]
+#[derive(Drop)]
 pub struct Path {
     names: Vec<Name>,
 }
@@ -92,10 +94,7 @@ impl Path {
     {
         let before = out.len();
         let done = append_names(&self.names, out);
-        if done.is_err() {
-            out.truncate(before);
-        }
-        done
+        or_take_back(done, before, out)
     }
 
     /// The same path again.
@@ -133,7 +132,7 @@ fn names_of(alloc: Global, bytes: &[u8]) -> Result<Vec<Name>, PathRefusal>
             Err(why) => return Err(bad_name(names.len() as u64, why)),
         }
     }
-    if names.len() > 64 {
+    if names.len() > MAX_PATH {
         return Err(PathRefusal::TooDeep(names.len() as u64));
     }
     Ok(names)

@@ -2,6 +2,7 @@
 
 ghost use Rattle.std.specs.Prelude.{◌≡◌, ◌==◌, ℕ, List, [], IfOk, IfErr, None, position};
 
+use crate::limits::MAX_TARGET;
 use crate::numbers::Ino;
 use std::alloc::{AllocError, Global};
 use std::marker::Model;
@@ -77,7 +78,7 @@ impl Target {
         if bytes.is_empty() {
             return Err(TargetRefusal::Empty);
         }
-        if bytes.len() > 4095 {
+        if bytes.len() > MAX_TARGET {
             return Err(TargetRefusal::TooLong(bytes.len() as u64));
         }
         if let Some(at) = Self::zero(bytes) {

@@ -2,11 +2,13 @@
 
 ghost use Rattle.std.specs.Prelude.{◌≡◌, ◌++◌, IsTrue, IfOk, IfErr, OnOk, OnErr, Ok, take, vec_len, length};
 ghost use Rattle.mj_base.specs.Cursor.{Faults, Reads};
+ghost use Rattle.mj_base.specs.RecordParts.{record_front, record_numbers};
 ghost use Rattle.mj_base.specs.Record.{kind_at, mode_at, target_at, target_length_fits, record_at, record_bytes, IsRecord};
 ghost use Rattle.mj_base.specs.RecordRefusal.{IsRecordRefusal};
 ghost use Rattle.mj_base.specs.Target.{has_no_zero};
 
-use crate::cursor::{Cursor, Fault, put_u8, put_u16, put_u32, put_u64};
+use crate::cursor::{Cursor, Fault, or_take_back, put_u8, put_u16, put_u32, put_u64};
+use crate::limits::{MAX_MODE, MAX_TARGET};
 use crate::numbers::Ino;
 use crate::record::{InodeRecord, Kind, Target};
 use std::alloc::{AllocError, Global};
@@ -100,7 +102,7 @@ fn mode_field(cursor: &mut Cursor<'_>) -> Result<u16, Fault>
 {
     let left = cursor.left();
     let mode = cursor.read_u16()?;
-    if mode > 0o7777 {
+    if mode > MAX_MODE {
         return Err(Fault::Left(left));
     }
     Ok(mode)
@@ -127,7 +129,7 @@ fn is_target_length(kind: Kind, len: u16) -> bool
     ensures { result ≡ target_length_fits kind len }
 {
     match kind {
-        Kind::Symlink => 1 <= len && len <= 4095,
+        Kind::Symlink => 1 <= len && len as usize <= MAX_TARGET,
         _ => len == 0,
     }
 }
@@ -146,10 +148,7 @@ pub fn record_write(inode: &InodeRecord, out: &mut Vec<u8>) -> Result<(), AllocE
 {
     let before = out.len();
     let done = append_record(inode, out);
-    if done.is_err() {
-        out.truncate(before);
-    }
-    done
+    or_take_back(done, before, out)
 }
 
 fn append_record(inode: &InodeRecord, out: &mut Vec<u8>) -> Result<(), AllocError>
@@ -157,18 +156,32 @@ fn append_record(inode: &InodeRecord, out: &mut Vec<u8>) -> Result<(), AllocErro
     ensures ok { OnOk result (out.new.items ≡ out.old.items ++ record_bytes inode.now) }
     ensures err { OnErr result (take (vec_len out.old) out.new.items ≡ out.old.items) }
 {
-    put_u8(VERSION, out)?;
-    let ino = inode.ino;
-    put_u64(ino.0, out)?;
-    put_u8(inode.kind.code(), out)?;
-    put_u16(inode.mode, out)?;
-    put_u32(inode.uid, out)?;
-    put_u32(inode.gid, out)?;
-    put_u64(inode.size, out)?;
-    put_u64(inode.mtime, out)?;
-    put_u32(inode.links, out)?;
+    append_front(inode, out)?;
+    append_numbers(inode, out)?;
     let target = inode.target.as_slice();
     put_u16(target.len() as u16, out)?;
     out.extend_from_slice(target)?;
     Ok(())
+}
+
+fn append_front(inode: &InodeRecord, out: &mut Vec<u8>) -> Result<(), AllocError>
+    ensures ok { OnOk result (out.new.items ≡ out.old.items ++ record_front inode.now) }
+    ensures err { OnErr result (take (vec_len out.old) out.new.items ≡ out.old.items) }
+{
+    put_u8(VERSION, out)?;
+    let ino = inode.ino;
+    put_u64(ino.0, out)?;
+    put_u8(inode.kind.code(), out)?;
+    put_u16(inode.mode, out)
+}
+
+fn append_numbers(inode: &InodeRecord, out: &mut Vec<u8>) -> Result<(), AllocError>
+    ensures ok { OnOk result (out.new.items ≡ out.old.items ++ record_numbers inode.now) }
+    ensures err { OnErr result (take (vec_len out.old) out.new.items ≡ out.old.items) }
+{
+    put_u32(inode.uid, out)?;
+    put_u32(inode.gid, out)?;
+    put_u64(inode.size, out)?;
+    put_u64(inode.mtime, out)?;
+    put_u32(inode.links, out)
 }

@@ -1,3 +1,4 @@
+pub mod Refused
 pub mod Sent
 pub mod Stops
 pub mod Laid

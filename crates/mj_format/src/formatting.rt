@@ -5,16 +5,18 @@ ghost use Rattle.mj_store.specs.Object.{Content};
 ghost use Rattle.mj_store.specs.State.{StoreState, Quiet, contents};
 ghost use Rattle.mj_store.specs.Events.{Tells};
 ghost use Rattle.mj_store.specs.Causes.{Counted, IsCounted};
-ghost use Rattle.mj_format.specs.Refusals.{RefusesSend, RefusesFormat, IsFormattedOrFault};
+ghost use Rattle.mj_store.specs.Calls.{RefusesPerform};
+ghost use Rattle.mj_store.specs.declared.answer.PerformRefusal.TheVariants.{Waiting as waiting_for};
+ghost use Rattle.mj_format.specs.Refusals.{RefusesFormat, IsFormattedOrFault};
 ghost use Rattle.mj_format.specs.Formatting.{header_object, IsFormatted, StopsWell};
 ghost use Rattle.mj_format.specs.declared.refusal.FormatRefusal.TheVariants.{Formatted, Waiting};
 
 use crate::made::{header_object, header_op, table_ops};
 use crate::refusal::FormatRefusal;
-use crate::sending::{send, send_all};
+use crate::sending::perform_all;
 use mj_base::RankNo;
 use mj_layout::Layout;
-use mj_store::{ObjectStore, StoreFault};
+use mj_store::{ObjectStore, PerformRefusal, StoreFault, perform};
 use std::alloc::Global;
 
 /// Makes the objects that a rank begins with, each whole before the next, and the journal's header last. A store with a
@@ -63,18 +65,18 @@ fn write_objects<S: ObjectStore>(
     store: &mut S,
     rank: RankNo,
     layout: Layout,
-) -> Result<(), FormatRefusal>
+) -> Result<(), PerformRefusal>
     ensures ok { OnOk result ((s : StoreState) → S.state store.old ≡ Some s → Quiet s → Tells (S.state store.new) (IsFormatted rank layout (contents s))) }
     ensures none_listed { OnOk result ((s : StoreState) → S.state store.old ≡ Some s → Quiet s → S.unreported store.old ≡ [] → S.unreported store.new ≡ []) }
     ensures stops { (s : StoreState) → S.state store.old ≡ Some s → Quiet s → contents s (header_object rank) ≡ None → StopsWell rank layout (contents s) (S.state store.old) (S.state store.new) }
-    ensures waiting { (number : ℕ) (s : StoreState) → IsErrOf result (Waiting number) → S.state store.old ≡ Some s → Quiet s → ⊥ }
-    ensures cause { IfErr result (RefusesSend (S.faults store.old) (S.faults store.new) (S.unreported store.new)) }
+    ensures waiting { (number : ℕ) (s : StoreState) → IsErrOf result (waiting_for number) → S.state store.old ≡ Some s → Quiet s → ⊥ }
+    ensures cause { IfErr result (RefusesPerform (S.faults store.old) (S.faults store.new) (S.unreported store.new)) }
     ensures counted { (base : ℕ) → Counted base (S.faults store.old) (S.unreported store.old) → Counted base (S.faults store.new) (S.unreported store.new) }
     ensures later { S.faults store.old ≤ S.faults store.new }
 {
     let tables = table_ops(alloc, rank)?;
     let header = header_op(alloc, rank, layout)?;
-    send_all(alloc, store, tables)?;
-    send(alloc, store, header)?;
+    perform_all(alloc, store, tables)?;
+    perform(alloc, store, header)?;
     Ok(())
 }

@@ -1,11 +1,10 @@
 //! Why a store was not formatted.
 
 ghost use Rattle.std.specs.Prelude.{◌≡◌};
-ghost use Rattle.mj_format.specs.Refusals.{of_submit};
-ghost use Rattle.mj_format.specs.declared.refusal.FormatRefusal.TheVariants.{Memory as format_memory, Store as format_store};
+ghost use Rattle.mj_format.specs.Refusals.{of_perform};
+ghost use Rattle.mj_format.specs.declared.refusal.FormatRefusal.TheVariants.{Store as format_store};
 
-use mj_store::{OpNo, StoreFault, SubmitRefusal};
-use std::alloc::AllocError;
+use mj_store::{OpNo, PerformRefusal, StoreFault};
 
 /// Why a store was not formatted.
 #[derive(Clone, Copy, Debug, PartialEq, Eq)]
@@ -27,21 +26,14 @@ impl From<StoreFault> for FormatRefusal {
     }
 }
 
-impl From<SubmitRefusal> for FormatRefusal {
-    ghost from_gives = { λ refusal e. e ≡ of_submit refusal };
+impl From<PerformRefusal> for FormatRefusal {
+    ghost from_gives = { λ refusal e. e ≡ of_perform refusal };
 
-    fn from(refusal: SubmitRefusal) -> Self {
+    fn from(refusal: PerformRefusal) -> Self {
         match refusal {
-            SubmitRefusal::Failed(fault) => FormatRefusal::Store(fault),
-            SubmitRefusal::Memory(_) => FormatRefusal::Memory,
+            PerformRefusal::Failed(fault) => FormatRefusal::Store(fault),
+            PerformRefusal::Waiting(number) => FormatRefusal::Waiting(number),
+            PerformRefusal::Memory => FormatRefusal::Memory,
         }
-    }
-}
-
-impl From<AllocError> for FormatRefusal {
-    ghost from_gives = { λ _ e. e ≡ format_memory };
-
-    fn from(_: AllocError) -> Self {
-        FormatRefusal::Memory
     }
 }

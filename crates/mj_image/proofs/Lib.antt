@@ -4,6 +4,5 @@ mod Runs
 mod Rising
 mod Codec
 mod WholeLaws
-mod Pieces
 mod Sizes
 mod Rows

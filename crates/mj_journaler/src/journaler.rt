@@ -24,22 +24,12 @@ use crate::cutting::tail_cut;
 use crate::ring::Ring;
 use crate::sent::{Offer, Sent};
 use crate::{Acked, AppendRefusal};
-use mj_base::{Items, OpNo, RankNo};
-use mj_entry::ENVELOPE;
+use mj_base::{ENVELOPE, Items, LAST_POSITION, MOST_UNSAFE, OpNo, RankNo, WINDOW};
 use mj_layout::{Header, Layout, journal_object};
 use mj_store::{ObjectAct, ObjectName, ObjectOp};
 use std::alloc::{AllocError, Global};
 use std::collections::VecDeque;
 use std::marker::Model;
-
-/// The most bytes that are not safe.
-pub const MOST_UNSAFE: u64 = 8_388_608;
-
-/// No entry ends above this position.
-pub const LAST_END: u64 = 4_611_686_018_427_387_903;
-
-/// How many periods above the safe position a write may reach.
-const WINDOW: u64 = 4;
 
 /// The writer of a journal. It buffers entries, gives the operations that bring them to the store, and takes their
 /// acknowledgements in any order.
@@ -200,7 +190,7 @@ impl Journaler {
         if MOST_UNSAFE < self.end - self.safe + len {
             return Some(AppendRefusal::Full(self.end - self.safe));
         }
-        if LAST_END < self.end + len {
+        if LAST_POSITION < self.end + len {
             return Some(AppendRefusal::Spent(self.end));
         }
         None
@@ -219,10 +209,10 @@ impl Journaler {
             return Some(AppendRefusal::Full(self.end - self.safe));
         }
         let between = self.end + first_len;
-        if LAST_END < between {
+        if LAST_POSITION < between {
             return Some(AppendRefusal::Spent(self.end));
         }
-        if LAST_END < between + second_len {
+        if LAST_POSITION < between + second_len {
             return Some(AppendRefusal::Spent(between));
         }
         None

@@ -13,7 +13,7 @@ mod ring;
 mod sent;
 
 pub use cutting::tail_cut;
-pub use journaler::{Journaler, LAST_END, MOST_UNSAFE};
+pub use journaler::Journaler;
 pub use sent::{Offer, Sent};
 use std::alloc::AllocError;
 

@@ -1,22 +1,16 @@
 //! The header's bytes, both ways.
 
-ghost use Rattle.std.specs.Prelude.{◌≡◌, ◌≤◌, ◌<◌, ℕ, List, length, slice_index, Ok, IfOk, IfErr};
+ghost use Rattle.std.specs.Prelude.{◌≡◌, ◌≤◌, ◌<◌, ◌++◌, ℕ, List, length, slice_index, Ok, IfOk, IfErr, OnOk};
 ghost use Rattle.std.specs.Int.{w32, w64};
 ghost use Rattle.mj_layout.specs.declared.Header.{Header};
 ghost use Rattle.mj_layout.specs.Gives.{Gives, Reads};
-ghost use Rattle.mj_layout.specs.Header.{header_bytes, header_of, fields_at, sound_layout_at, format_at, phase_at, ends, exactly, uncut, is_ordered, phase_code, phase_of, IsHeader};
+ghost use Rattle.mj_layout.specs.Header.{header_bytes, layout_bytes, header_of, fields_at, sound_layout_at, format_at, phase_at, ends, exactly, uncut, is_ordered, phase_code, phase_of, IsHeader};
 
 use crate::{Header, HeaderRefusal, Layout, Phase};
-use mj_base::{Cursor, put_u8, put_u32, put_u64};
+use mj_base::{Cursor, HEADER_BYTES, HEADER_MAGIC, POSITIONS_END, put_u8, put_u32, put_u64};
 use std::alloc::{AllocError, Global};
 
-/// How each header begins: the length of Ceph's magic text, and the text.
-const MAGIC: [u8; 23] = *b"\x13\0\0\0ceph fs volume v011";
-
 impl Header {
-    /// The number of bytes of each header.
-    pub const SIZE: usize = 69;
-
     /// The header that the bytes are.
     pub fn read(bytes: &[u8]) -> Result<Header, HeaderRefusal>
         ensures { result ≡ header_of bytes.now }
@@ -32,14 +26,12 @@ impl Header {
     pub fn write(&self, alloc: Global) -> Result<Vec<u8>, AllocError>
         ensures { IfOk result (λ bytes. bytes.items ≡ header_bytes self.now) }
     {
-        let mut out = Vec::with_capacity(alloc, Header::SIZE)?;
-        out.extend_from_slice(&MAGIC)?;
+        let mut out = Vec::with_capacity(alloc, HEADER_BYTES)?;
+        out.extend_from_slice(&HEADER_MAGIC)?;
         put_u64(self.trimmed, &mut out)?;
         put_u64(self.expire, &mut out)?;
         put_u64(self.write, &mut out)?;
-        put_u32(self.layout.su(), &mut out)?;
-        put_u32(self.layout.sc(), &mut out)?;
-        put_u32(self.layout.os(), &mut out)?;
+        append_layout(&self.layout, &mut out)?;
         put_u8(self.format, &mut out)?;
         put_u8(self.phase.code(), &mut out)?;
         put_u64(self.epoch, &mut out)?;
@@ -53,8 +45,16 @@ impl Header {
         self.layout.period() <= self.trimmed
             && self.trimmed <= self.expire
             && self.expire <= self.write
-            && self.write < 1 << 62
+            && self.write < POSITIONS_END
     }
+}
+
+fn append_layout(layout: &Layout, out: &mut Vec<u8>) -> Result<(), AllocError>
+    ensures { OnOk result (out.new.items ≡ out.old.items ++ layout_bytes layout.now) }
+{
+    put_u32(layout.su(), out)?;
+    put_u32(layout.sc(), out)?;
+    put_u32(layout.os(), out)
 }
 
 impl Phase {
@@ -85,7 +85,7 @@ fn read_fields(bytes: &[u8]) -> Result<Header, usize>
     ensures is { Gives (λ h. h) result (fields_at bytes.now) }
     ensures within { IfErr result (λ left. left ≤ length bytes.now) }
 {
-    let magic = MAGIC;
+    let magic = HEADER_MAGIC;
     let rest = exactly(&magic, bytes)?;
     let mut cursor = Cursor::new(rest);
     let trimmed = uncut_u64(&mut cursor)?;

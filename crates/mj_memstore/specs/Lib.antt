@@ -3,7 +3,6 @@ pub mod Content
 pub mod Room
 pub mod HeldView
 pub mod Held
-pub mod Plan
 pub mod Memory
 pub mod Facts
 pub mod Holding

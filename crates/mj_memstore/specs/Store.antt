@@ -9,7 +9,6 @@ use Rattle.mj_store.specs.declared.answer.ReadRefusal.TheVariants as read
 use Rattle.mj_store.specs.State.{StoreState}
 use Rattle.mj_store.specs.Causes.{Listed}
 use Rattle.mj_memstore.specs.declared.memory.MemStore.{MemStore}
-use Rattle.mj_memstore.specs.Plan.{plan_of}
 use Rattle.mj_memstore.specs.Memory.{state_of, list_of, held_objects}
 use Rattle.mj_memstore.specs.Holding.{holding}
 
@@ -25,7 +24,7 @@ memory_objects m = held_objects m.objects.entries
 
 -- the calls that are to fail
 abbrev pub memory_plan : MemStore → PlanState
-memory_plan m = plan_of m.plan
+memory_plan m = m.plan
 
 -- no number is left
 abbrev pub is_spent : MemStore → Bool

@@ -8,7 +8,6 @@ mod making;
 mod memory;
 mod objects;
 mod pairs;
-mod plan;
 mod queued;
 mod read;
 mod room;

@@ -7,7 +7,7 @@ ghost use Rattle.mj_memstore.specs.Store.{memory_state, memory_objects, IsNew};
 
 use crate::memory::MemStore;
 use crate::objects::{hold_all, nth_object, objects_there};
-use crate::plan::Plan;
+use mj_base::FaultPlan;
 use mj_store::HeldObject;
 use std::alloc::{AllocError, Global};
 use std::collections::{BTreeMap, VecDeque};
@@ -22,7 +22,7 @@ impl MemStore {
             completed: VecDeque::new(alloc),
             listed: BTreeMap::new(alloc),
             last: 0,
-            plan: Plan::none(alloc),
+            plan: FaultPlan::none(alloc),
         }
     }
 
@@ -48,7 +48,7 @@ impl MemStore {
             completed: VecDeque::new(alloc),
             listed: BTreeMap::new(alloc),
             last: 0,
-            plan: Plan::new(alloc, calls)?,
+            plan: FaultPlan::new(alloc, calls)?,
         })
     }
 

@@ -6,7 +6,7 @@ ghost use Rattle.mj_memstore.specs.Facts.{named_prop};
 ghost use Rattle.mj_memstore.specs.Memory.{IsMemory, list_of};
 
 use crate::objects::Objects;
-use crate::plan::Plan;
+use mj_base::FaultPlan;
 use mj_store::Ack;
 use std::collections::{BTreeMap, VecDeque};
 
@@ -19,6 +19,6 @@ pub struct MemStore {
     pub(crate) listed: BTreeMap<u64, u64>,
     // the number of the last operation
     pub(crate) last: u64,
-    pub(crate) plan: Plan,
+    pub(crate) plan: FaultPlan,
     ghost sound: { IsMemory objects.entries completed.items (list_of listed.entries) last plan.faults (deque_capacity completed) } by { Prim.hlevel (props, named_prop) },
 }

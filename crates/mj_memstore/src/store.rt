@@ -11,14 +11,22 @@ ghost use Rattle.mj_memstore.specs.Store.{memory_state, memory_list, memory_plan
 
 use crate::memory::MemStore;
 use crate::objects::{settle_all, try_first};
-use crate::plan::{count_fault, fault_of, next_fails};
 use crate::read::{bytes_from, object_named, page_from};
 use crate::submit::{push_report, put_op};
-use mj_base::OpNo;
+use mj_base::{FaultPlan, OpNo};
 use mj_store::{
     Ack, ObjectName, ObjectOp, ObjectStore, Page, ReadRefusal, StoreFault, SubmitRefusal,
 };
 use std::alloc::Global;
+
+// The fault that was counted last.
+fn fault_of(plan: &FaultPlan) -> StoreFault
+    ensures { result.faults ≡ plan.now.faults }
+{
+    StoreFault {
+        faults: plan.faults(),
+    }
+}
 
 impl ObjectStore for MemStore {
     ghost state = { λ m. Some (memory_state m) };
@@ -45,20 +53,21 @@ impl ObjectStore for MemStore {
         ensures planned { IsSubmitFault result ↔ IsTrue (is_next_failing (memory_plan self.old) || is_spent self.old) }
         ensures counted { memory_plan self.new ≡ plan_after_submit self.old }
     {
-        if next_fails(&mut self.plan) {
+        if self.plan.next_fails() {
             return Err(SubmitRefusal::Failed(fault_of(&self.plan)));
         }
         if self.last == u64::MAX {
-            count_fault(&mut self.plan);
+            self.plan.count_fault();
             return Err(SubmitRefusal::Failed(fault_of(&self.plan)));
         }
+        let faults = self.plan.faults();
         match put_op(
             alloc,
             &mut self.objects,
             &mut self.completed,
             &mut self.listed,
             self.last,
-            self.plan.faults,
+            faults,
             op,
         ) {
             Ok(number) => {
@@ -98,7 +107,7 @@ impl ObjectStore for MemStore {
         ensures planned { IsErr result ↔ IsTrue (is_next_failing (memory_plan self.old)) }
         ensures counted { memory_plan self.new ≡ after_call (memory_plan self.old) }
     {
-        if next_fails(&mut self.plan) {
+        if self.plan.next_fails() {
             return Err(fault_of(&self.plan));
         }
         match object_named(&self.objects, name) {
@@ -127,7 +136,7 @@ impl ObjectStore for MemStore {
         ensures planned { IsReadFault result ↔ IsTrue (is_next_failing (memory_plan self.old)) }
         ensures counted { memory_plan self.new ≡ after_call (memory_plan self.old) }
     {
-        if next_fails(&mut self.plan) {
+        if self.plan.next_fails() {
             return Err(ReadRefusal::Failed(fault_of(&self.plan)));
         }
         match object_named(&self.objects, name) {
@@ -157,7 +166,7 @@ impl ObjectStore for MemStore {
         ensures planned { IsReadFault result ↔ IsTrue (is_next_failing (memory_plan self.old)) }
         ensures counted { memory_plan self.new ≡ after_call (memory_plan self.old) }
     {
-        if next_fails(&mut self.plan) {
+        if self.plan.next_fails() {
             return Err(ReadRefusal::Failed(fault_of(&self.plan)));
         }
         Ok(page_from(alloc, object_named(&self.objects, name), after, most)?)
@@ -179,7 +188,7 @@ impl ObjectStore for MemStore {
         ensures told { is_next_failing (memory_plan self.old) ≡ true → IfOk result (λ number. IsSome number) }
         ensures counted { memory_plan self.new ≡ after_call (memory_plan self.old) }
     {
-        let fails = next_fails(&mut self.plan);
+        let fails = self.plan.next_fails();
         let Some(ack) = try_first(&mut self.objects, name, fails) else {
             return if fails {
                 Err(fault_of(&self.plan))
@@ -207,7 +216,7 @@ impl ObjectStore for MemStore {
         ensures planned { IsErr result ↔ IsTrue (is_next_failing (memory_plan self.old)) }
         ensures counted { memory_plan self.new ≡ after_call (memory_plan self.old) }
     {
-        if next_fails(&mut self.plan) {
+        if self.plan.next_fails() {
             return Err(fault_of(&self.plan));
         }
         settle_all(&mut self.objects);
@@ -217,6 +226,6 @@ impl ObjectStore for MemStore {
     }
 
     fn faults(&self) -> u64 {
-        self.plan.faults
+        self.plan.faults()
     }
 }

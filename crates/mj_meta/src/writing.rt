@@ -7,7 +7,7 @@ ghost use Rattle.mj_meta.specs.Blob.{name_bytes, full_bytes, remote_bytes, null_
 ghost use Rattle.std.specs.List.{flat_map};
 
 use crate::{DirLump, FullBit, HeadBit, MetaBlob, NullBit, RemoteBit};
-use mj_base::{Name, put_u8, put_u16, put_u32, put_u64, record_write};
+use mj_base::{Name, or_take_back, put_u8, put_u16, put_u32, put_u64, record_write};
 use std::alloc::{AllocError, Global};
 
 /// Appends the bytes of a blob. After an error the buffer is as before.
@@ -18,10 +18,7 @@ pub fn blob_write(_alloc: Global, blob: &MetaBlob, out: &mut Vec<u8>) -> Result<
 {
     let before = out.len();
     let done = append_blob(blob, out);
-    if done.is_err() {
-        out.truncate(before);
-    }
-    done
+    or_take_back(done, before, out)
 }
 
 /// Appends the bytes of a blob.

@@ -15,7 +15,7 @@ use mj_store::{ObjectStore, ReadRefusal, StoreFault};
 use std::alloc::Global;
 
 /// Positions end here.
-const END: u64 = 1 << 62;
+const POSITIONS_END: u64 = 1 << 62;
 
 /// Where the stream from a position on ends: at the least position at or above it whose offset is not below its object's
 /// size, and at 2^62 where there is none below that. It asks for the sizes of the objects from the position's set to
@@ -58,13 +58,13 @@ fn least_missing<S: ObjectStore>(
 {
     layout.is_sound();
     let period = layout.period();
-    for set in from / period..(END - 1) / period + 1 {
+    for set in from / period..(POSITIONS_END - 1) / period + 1 {
         let at = least_in_set(store, rank, layout, set, from)?;
-        if at < END {
+        if at < POSITIONS_END {
             return Ok(at);
         }
     }
-    Ok(END)
+    Ok(POSITIONS_END)
 }
 
 // The least position of a set that has no byte, from one on.
@@ -84,7 +84,7 @@ fn least_in_set<S: ObjectStore>(
 {
     let sc = layout.sc() as u64;
     let first = set * sc;
-    let mut least = END;
+    let mut least = POSITIONS_END;
     for index in first..first + sc {
         least = least.min(least_in_object(store, rank, layout, index, from)?);
     }
@@ -118,9 +118,9 @@ fn least_behind(layout: &Layout, index: u64, size: u64, from: u64) -> u64
     let os = layout.os();
     let held = size.min(os as u64) as u32;
     let offset = layout.front_below(index, from).max(held);
-    let last = layout.front_below(index, END).min(os);
+    let last = layout.front_below(index, POSITIONS_END).min(os);
     if last <= offset {
-        return END;
+        return POSITIONS_END;
     }
     layout.position_of(Spot { index, offset })
 }

@@ -11,7 +11,6 @@ ghost use Rattle.mj_rank.specs.Segment.{due_map, event_refusal, event_end, event
 ghost use Rattle.mj_rank.specs.Entries.{map_of};
 
 use mj_base::{Ino, Items, RankNo};
-use mj_entry::ENVELOPE;
 use mj_event::{Event, event_write};
 use mj_journaler::{AppendRefusal, Journaler};
 use mj_recovery::ROOT;

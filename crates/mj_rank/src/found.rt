@@ -8,7 +8,6 @@ ghost use Rattle.mj_rank.specs.Mount.{first_log, first_segment, next_header, ser
 use crate::entries::map_payload;
 use mj_base::RankNo;
 use mj_cache::Cache;
-use mj_entry::ENVELOPE;
 use mj_journaler::Journaler;
 use mj_layout::{Header, Phase};
 use std::alloc::{AllocError, Global};

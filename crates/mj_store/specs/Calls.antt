@@ -36,10 +36,6 @@ IsAnswer _ _ = ⊥
 
 -- ---- one operation
 
--- in a store that tells its state nothing is pending or unreported
-abbrev pub IsAtRest : Option StoreState → List Listed → Type 0
-IsAtRest told list = (s : StoreState) → told ≡ Some s → Quiet s × (list ≡ [])
-
 -- one act is applied, and nothing is pending or unreported
 pub record Performed (op : ObjectOp) (s t : StoreState) : Type 0 where
   pub held : (name : ObjectName) → contents t name ≡ put (contents s) op.name (applied op.act (contents s op.name)) name

@@ -2,7 +2,7 @@
 
 ghost use Rattle.std.specs.Prelude.{◌≡◌};
 ghost use Rattle.mj_store.specs.declared.answer.ReadRefusal.TheVariants.{Memory as read_memory};
-ghost use Rattle.mj_store.specs.declared.answer.PerformRefusal.TheVariants.{Failed as perform_failed};
+ghost use Rattle.mj_store.specs.declared.answer.PerformRefusal.TheVariants.{Failed as perform_failed, Memory as perform_memory};
 ghost use Rattle.mj_store.specs.Refusals.{perform_refusal};
 
 use crate::act::{ObjectOp, Pair};
@@ -55,7 +55,7 @@ pub enum PerformRefusal {
     Failed(StoreFault),
     /// The operation has this number and is not reported yet.
     Waiting(OpNo),
-    /// Want of memory. Nothing was submitted.
+    /// Want of memory. The operation was not submitted.
     Memory,
 }
 
@@ -72,6 +72,14 @@ impl<T: Drop> From<AllocFailed<T>> for ReadRefusal {
 
     fn from(_: AllocFailed<T>) -> Self {
         ReadRefusal::Memory
+    }
+}
+
+impl From<AllocError> for PerformRefusal {
+    ghost from_gives = { λ _ e. e ≡ perform_memory };
+
+    fn from(_: AllocError) -> Self {
+        PerformRefusal::Memory
     }
 }
 

@@ -2,11 +2,11 @@
 
 ghost use Rattle.std.specs.Prelude.{◌≡◌, ℕ, ◌≤◌, Option, Some, List, [], ◌∷◌, false, IfOk, OnOk, OnErr, IfErr, IsErrOf, IfSome, IfNone};
 ghost use Rattle.mj_store.specs.Object.{HasShortKeys};
-ghost use Rattle.mj_store.specs.State.{StoreState, reported};
+ghost use Rattle.mj_store.specs.State.{StoreState, Quiet, reported};
 ghost use Rattle.mj_store.specs.Events.{Goes, Tells};
 ghost use Rattle.mj_store.specs.Moves.{Stays, Still};
 ghost use Rattle.mj_store.specs.Causes.{Listed, In, Counted, RefusesRead, unlisted};
-ghost use Rattle.mj_store.specs.Calls.{IsWant, Fetches, IsAnswer, IsAtRest, Performed, RefusesPerform, GoesBy};
+ghost use Rattle.mj_store.specs.Calls.{IsWant, Fetches, IsAnswer, Performed, RefusesPerform, GoesBy};
 ghost use Rattle.mj_base.specs.Counts.{Rose};
 ghost use Rattle.mj_store.specs.declared.answer.Ack.{Ack};
 ghost use Rattle.mj_store.specs.declared.answer.PerformRefusal.TheVariants.{Memory, Waiting};
@@ -58,17 +58,18 @@ fn reported_done<S: ObjectStore>(store: &mut S, number: OpNo) -> Option<bool>
 
 /// Submits an operation, tries its object's first one, and waits for its report. `Ok` says that it is applied.
 /// After a refusal other than `Memory` the store holds the operation as the store says, and goes on to hold it.
+/// It may be called over any store; what comes of it is said of one that tells its state and is quiet.
 pub fn perform<S: ObjectStore>(
     alloc: Global,
     store: &mut S,
     op: ObjectOp,
 ) -> Result<(), PerformRefusal>
-    requires keys { HasShortKeys op.act }
-    requires rest { IsAtRest (S.state store.old) (S.unreported store.old) }
-    ensures ok { OnOk result ((s : StoreState) → S.state store.old ≡ Some s → Tells (S.state store.new) (Performed op s) × (S.unreported store.new ≡ [])) }
+    requires { HasShortKeys op.act }
+    ensures ok { OnOk result ((s : StoreState) → S.state store.old ≡ Some s → Quiet s → Tells (S.state store.new) (Performed op s)) }
+    ensures none_listed { OnOk result ((s : StoreState) → S.state store.old ≡ Some s → Quiet s → S.unreported store.old ≡ [] → S.unreported store.new ≡ []) }
     ensures ok_by { OnOk result (Goes (S.state store.old) (op ∷ []) (S.state store.new)) }
     ensures goes { GoesBy op (S.state store.old) (S.state store.new) }
-    ensures waiting { (number : ℕ) (s : StoreState) → IsErrOf result (Waiting number) → S.state store.old ≡ Some s → ⊥ }
+    ensures waiting { (number : ℕ) (s : StoreState) → IsErrOf result (Waiting number) → S.state store.old ≡ Some s → Quiet s → ⊥ }
     ensures nothing { IsErrOf result Memory → Stays (S.state store.old) (S.state store.new) }
 
     // over every store

@@ -51,10 +51,10 @@ names_len c =
     let n = length c.loop-part.yielded in
     omega (arith, c.loop-part.names.ok.0, ap length c.loop-part.invariant.read, length-take n (parts_of c.args.bytes.now), ended c)
 
-pub returns-then-len-gt64-clause-refused : goal.returns-then-len-gt64-clause-refused
-returns-then-len-gt64-clause-refused c =
-    let at = (goal.at.returns-then-len-gt64-clause-refused c).In-None in
-    let len = c.len-then-len-gt64.ensures ∙ names_len at in
+pub returns-then-len-gt-MAX_PATH-clause-refused : goal.returns-then-len-gt-MAX_PATH-clause-refused
+returns-then-len-gt-MAX_PATH-clause-refused c =
+    let at = (goal.at.returns-then-len-gt-MAX_PATH-clause-refused c).In-None in
+    let len = c.len-then-len-gt-MAX_PATH.ensures ∙ names_len at in
     names_of-deep c.args.bytes.now (length c.loop-part.yielded) (sym c.is_empty.ensures ∙ c.if-is_empty.false) c.loop-part.invariant.later (ended at) (omega (arith, names_len at, c.len-2.ensures))
     ∙ ap (λ (k : ℕ). Err (TooDeep k)) (sym len)
 

@@ -1,5 +1,5 @@
 use Rattle.mj_event.specs.Writes.{reply_gone}
-use Rattle.mj_meta.proofs.Pieces.{item_more, items_end}
+use Rattle.mj_base.proofs.Pieces.{item_more, items_end}
 use Rattle.mj_event.proofs.cell_writes.push_dropped.Goals as goal
 
 pub loop-tid-preserved : goal.loop-tid-preserved

@@ -1,5 +1,5 @@
 use Rattle.mj_event.specs.Writes.{lump_writes}
-use Rattle.mj_meta.proofs.Pieces.{piece_more, pieces_end}
+use Rattle.mj_base.proofs.Pieces.{piece_more, pieces_end}
 use Rattle.mj_event.proofs.cell_writes.push_lumps.Goals as goal
 
 pub loop-lump-preserved : goal.loop-lump-preserved

@@ -1,5 +1,5 @@
 use Rattle.mj_event.specs.Writes.{null_write}
-use Rattle.mj_meta.proofs.Pieces.{item_more, items_end}
+use Rattle.mj_base.proofs.Pieces.{item_more, items_end}
 use Rattle.mj_event.proofs.cell_writes.push_nulls.Goals as goal
 
 pub loop-bit-preserved : goal.loop-bit-preserved

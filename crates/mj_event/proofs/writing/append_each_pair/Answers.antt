@@ -1,5 +1,5 @@
 use Rattle.mj_event.specs.Event.{pair_bytes}
-use Rattle.mj_meta.proofs.Pieces.{piece_more, pieces_end}
+use Rattle.mj_base.proofs.Pieces.{piece_more, pieces_end}
 use Rattle.mj_event.proofs.writing.append_each_pair.Goals as goal
 
 pub loop-pair-preserved : goal.loop-pair-preserved

@@ -1,5 +1,5 @@
 use Rattle.mj_base.specs.Reading.{eight}
-use Rattle.mj_meta.proofs.Pieces.{piece_more, pieces_end}
+use Rattle.mj_base.proofs.Pieces.{piece_more, pieces_end}
 use Rattle.mj_event.proofs.writing.append_inos.Goals as goal
 
 pub loop-ino-preserved : goal.loop-ino-preserved

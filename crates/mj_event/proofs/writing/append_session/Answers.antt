@@ -1,7 +1,7 @@
 use Rattle.std.proofs.Common.{ℕ, List, [], ◌∷◌, ◌++◌, ap, ◌∙◌}
 use Rattle.mj_base.specs.Reading.{four, eight}
 use Rattle.mj_base.proofs.Appended.{first_piece, then_piece}
-use Rattle.mj_meta.proofs.Pieces.{on_ok}
+use Rattle.mj_base.proofs.Pieces.{on_ok}
 use Rattle.mj_event.specs.Event.{numbers, session_code}
 use Rattle.mj_event.proofs.writing.append_session.Goals as goal
 

@@ -1,5 +1,5 @@
 use Rattle.mj_base.specs.Reading.{eight}
-use Rattle.mj_meta.proofs.Pieces.{piece_more, pieces_end}
+use Rattle.mj_base.proofs.Pieces.{piece_more, pieces_end}
 use Rattle.mj_event.proofs.writing.append_tids.Goals as goal
 
 pub loop-tid-preserved : goal.loop-tid-preserved

@@ -2,7 +2,7 @@ use Rattle.std.proofs.Common.{ℕ, List, ◌++◌, ap, ◌∙◌}
 use Rattle.mj_base.specs.Reading.{eight, optional}
 use Rattle.mj_base.proofs.Appended.{first_piece, then_piece}
 use Rattle.mj_meta.specs.Blob.{blob_bytes}
-use Rattle.mj_meta.proofs.Pieces.{on_ok}
+use Rattle.mj_base.proofs.Pieces.{on_ok}
 use Rattle.mj_event.specs.Event.{numbers, update_front}
 use Rattle.mj_event.proofs.writing.append_update.Goals as goal
 

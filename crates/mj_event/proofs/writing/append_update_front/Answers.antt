@@ -1,7 +1,7 @@
 use Rattle.std.proofs.Common.{ℕ, [], ◌∷◌, ◌++◌, ap, ◌∙◌}
 use Rattle.mj_base.specs.Reading.{four, eight, optional}
 use Rattle.mj_base.proofs.Appended.{first_piece, then_piece}
-use Rattle.mj_meta.proofs.Pieces.{on_ok}
+use Rattle.mj_base.proofs.Pieces.{on_ok}
 use Rattle.mj_event.proofs.writing.append_update_front.Goals as goal
 
 pub returns : goal.returns

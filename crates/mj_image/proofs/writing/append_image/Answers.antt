@@ -1,4 +1,4 @@
-use Rattle.mj_image.proofs.Pieces.{on_ok}
+use Rattle.mj_base.proofs.Pieces.{on_ok}
 use Rattle.mj_image.proofs.WholeLaws.{image_written}
 use Rattle.mj_image.proofs.writing.append_image.Goals as goal
 

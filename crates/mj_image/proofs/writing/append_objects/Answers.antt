@@ -1,5 +1,5 @@
 use Rattle.mj_image.specs.Image.{IsStorable}
-use Rattle.mj_image.proofs.Pieces.{fits_at}
+use Rattle.mj_base.proofs.Pieces.{fits_at}
 use Rattle.mj_image.proofs.writing.append_objects.Goals as goal
 
 pub append_object-requires : goal.append_object-requires

@@ -2,7 +2,7 @@ use Rattle.std.proofs.Common.{[], sym, ap, map, ◌∙◌}
 use Rattle.mj_tables.specs.Layered.{early_cells}
 use Rattle.mj_index.specs.Following.{early_value}
 use Rattle.mj_index.specs.Changes.{change_of, where_said}
-use Rattle.mj_meta.proofs.Pieces.{on_err}
+use Rattle.mj_base.proofs.Pieces.{on_err}
 use Rattle.mj_index.proofs.Course.{same_midway}
 use Rattle.mj_index.proofs.Turning.{keys_changes, group_done}
 use Rattle.mj_index.proofs.group.follow_gently.Goals as goal

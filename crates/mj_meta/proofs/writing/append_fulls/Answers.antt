@@ -1,5 +1,5 @@
 use Rattle.mj_meta.specs.Blob.{full_bytes, FullFits}
-use Rattle.mj_meta.proofs.Pieces.{on_err, begins, piece_more, pieces_end, fits_at}
+use Rattle.mj_base.proofs.Pieces.{on_err, begins, piece_more, pieces_end, fits_at}
 use Rattle.mj_meta.proofs.writing.append_fulls.Goals as goal
 
 pub returns-in_err-append_full-clause-err : goal.returns-in_err-append_full-clause-err

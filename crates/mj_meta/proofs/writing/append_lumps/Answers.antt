@@ -1,5 +1,5 @@
 use Rattle.mj_meta.specs.Blob.{lump_bytes, IsLump}
-use Rattle.mj_meta.proofs.Pieces.{on_err, begins, piece_more, pieces_end, fits_at}
+use Rattle.mj_base.proofs.Pieces.{on_err, begins, piece_more, pieces_end, fits_at}
 use Rattle.mj_meta.proofs.writing.append_lumps.Goals as goal
 
 pub returns-in_err-append_lump-clause-err : goal.returns-in_err-append_lump-clause-err

@@ -1,5 +1,5 @@
 use Rattle.mj_meta.specs.Blob.{null_bytes}
-use Rattle.mj_meta.proofs.Pieces.{on_err, begins, piece_more, pieces_end}
+use Rattle.mj_base.proofs.Pieces.{on_err, begins, piece_more, pieces_end}
 use Rattle.mj_meta.proofs.writing.append_nulls.Goals as goal
 
 pub returns-in_err-append_null-clause-err : goal.returns-in_err-append_null-clause-err

@@ -20,21 +20,23 @@ returns-in_err-step-clause-counted g c base k =
     (counted_listed c.in_ok-number.number c.in_ok-number.ensures.later c.in_ok-number.ensures.listed k)
 
 pub returns-in-Some-true-clause-ok : goal.returns-in-Some-true-clause-ok
-returns-in-Some-true-clause-ok g c s is =
+returns-in-Some-true-clause-ok g c s is quiet =
     let number = c.in_ok-number.number in
-    let list = g.S.ObjectStore.unreported in
-    let rest = c.requires.rest s is in
-    let once = tried_once c.args.op number s c.in_ok-step.field-0 _ _ _ rest.0 is c.in_ok-number.ensures.ok c.in_ok-step.ensures.ok in
+    let once = tried_once c.args.op number s c.in_ok-step.field-0 _ _ _ quiet is c.in_ok-number.ensures.ok c.in_ok-step.ensures.ok in
     let told = c.in-Some-true.ensures.told once.now once.is once.still once.ack once.completed once.this in
     let done : once.ack.done ≡ true = some_is once.ack.done true (sym told.0 ∙ ap (λ (b : Bool). Some b) c.in-Some-true.field-0-test) in
-    let performed = done_performed c.args.op number s once.now (once.done done) in (
-      record { now = _; is = told.1; holds = performed },
-      unlisted_only number (g.S.ObjectStore.faults c.submit.new.self) (list c.args.store.now) _ rest.1
-          (told.2 ∙ ap (unlisted number) (c.in_ok-step.ensures.same_list ∙ c.in_ok-number.ensures.listed)),
-    )
+    record { now = _; is = told.1; holds = done_performed c.args.op number s once.now (once.done done) }
   where
     some_is : (a b : Bool) → Some a ≡ Some b → a ≡ b
     some_is a b e = cc
+
+pub returns-in-Some-true-clause-none_listed : goal.returns-in-Some-true-clause-none_listed
+returns-in-Some-true-clause-none_listed g c s is quiet none =
+    let number = c.in_ok-number.number in
+    let once = tried_once c.args.op number s c.in_ok-step.field-0 _ _ _ quiet is c.in_ok-number.ensures.ok c.in_ok-step.ensures.ok in
+    let told = c.in-Some-true.ensures.told once.now once.is once.still once.ack once.completed once.this in
+    unlisted_only number (g.S.ObjectStore.faults c.submit.new.self) (g.S.ObjectStore.unreported c.args.store.now) _ none
+    (told.2 ∙ ap (unlisted number) (c.in_ok-step.ensures.same_list ∙ c.in_ok-number.ensures.listed))
 
 pub returns-in-Some-true-clause-ok_by : goal.returns-in-Some-true-clause-ok_by
 returns-in-Some-true-clause-ok_by g c =
@@ -76,9 +78,8 @@ returns-in-None-clause-goes g c =
     inr (goes_then (goes_submits c.args.op c.in_ok-number.number c.in_ok-number.ensures.ok) (goes_then (goes_steps c.args.op.name c.in_ok-step.field-0 c.in_ok-step.ensures.ok) c.reported_done.ensures.goes))
 
 pub returns-in-None-clause-waiting : goal.returns-in-None-clause-waiting
-returns-in-None-clause-waiting g c number s e is =
-    let rest = c.requires.rest s is in
-    let once = tried_once c.args.op c.in_ok-number.number s c.in_ok-step.field-0 _ _ _ rest.0 is c.in_ok-number.ensures.ok c.in_ok-step.ensures.ok in
+returns-in-None-clause-waiting g c number s e is quiet =
+    let once = tried_once c.args.op c.in_ok-number.number s c.in_ok-step.field-0 _ _ _ quiet is c.in_ok-number.ensures.ok c.in_ok-step.ensures.ok in
     let told = c.in-None.ensures.told once.now once.is once.still once.ack once.completed once.this in
     none_is once.ack.done told.0
   where

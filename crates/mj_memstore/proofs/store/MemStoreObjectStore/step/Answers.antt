@@ -17,14 +17,14 @@ pub invariant_of-self : goal.invariant_of-self
 invariant_of-self c =
     let s = c.args.self.now in
     let counted = memory_counted _ _ _ _ _ _ _ c.next_fails-fails.ensures.later s.sound in
-    record { sound = subst (λ (es : Entries). IsMemory es s.completed.items (list_of s.listed.entries) s.last c.next_fails-fails.new.plan.faults (deque_capacity s.completed)) (sym c.in_default.ensures.same) counted }
+    record { sound = subst (λ (es : Entries). IsMemory es s.completed.items (list_of s.listed.entries) s.last c.next_fails-fails.new.self.faults (deque_capacity s.completed)) (sym c.in_default.ensures.same) counted }
 
 pub invariant_of-self-2 : goal.invariant_of-self-2
 invariant_of-self-2 c =
     let t = c.in-Some.ensures.some in
     let ack = c.in-Some.ack in
     let s = c.args.self.now in
-    let faults = c.next_fails-fails.new.plan.faults in
+    let faults = c.next_fails-fails.new.self.faults in
     let counted = memory_counted _ _ _ _ _ faults _ c.next_fails-fails.ensures.later s.sound in
     let tried = memory_tried c.args.name.now t.0 t.1 ack s.objects.entries c.try_first.new.objects.entries _ _ _ _ _ t.2 t.3 (rose_all c.next_fails-fails.result ack.done s.plan.faults faults (list_of s.listed.entries) c.in-Some.ensures.answer c.next_fails-fails.ensures.cause s.sound.counts) counted in
     record {

@@ -1,6 +1,6 @@
 use Rattle.std.proofs.Common.{◌≡◌, ◌++◌}
 use Rattle.mj_format.proofs.Sent.{Sends}
-use Rattle.mj_format.proofs.sending.send_all.Given as goal
+use Rattle.mj_format.proofs.sending.perform_all.Given as goal
 
 abbrev pub invariant-loop-op : goal.invariant-loop-op
 invariant-loop-op g l =
