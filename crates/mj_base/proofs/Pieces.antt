@@ -48,23 +48,11 @@ fits_at P [] i x all lt is = absurd (omega (arith, lt))
 fits_at P (y ∷ xs) zero x all lt is = subst P (sym is) all.0
 fits_at P (y ∷ xs) (suc i) x all lt is = fits_at P xs i x all.1 (omega (arith, lt)) is
 
--- ---- what holds of one thing of each item
-
+-- and what holds of one thing of each
 pub part_at : {A B : Type 0} (P : B → Type 0) (f : A → B) (xs : List A) (i : ℕ) (x : A) → AllByRecursion P (map f xs) → i < length xs → x ≡ get_or xs i x → P (f x)
 part_at P f [] i x all lt is = absurd (omega (arith, lt))
 part_at P f (y ∷ xs) zero x all lt is = subst (λ z. P (f z)) (sym is) all.0
 part_at P f (y ∷ xs) (suc i) x all lt is = part_at P f xs i x all.1 (omega (arith, lt)) is
-
--- what holds of one more holds of all up to there
-pub parts_more : {A B : Type 0} (P : B → Type 0) (f : A → B) (xs : List A) (i : ℕ) (x : A) → AllByRecursion P (map f (take i xs)) → P (f x) → i < length xs → x ≡ get_or xs i x → AllByRecursion P (map f (take (i + 1) xs))
-parts_more P f [] i x all h lt is = absurd (omega (arith, lt))
-parts_more P f (y ∷ xs) zero x all h lt is = (subst (λ z. P (f z)) is h, tt)
-parts_more P f (y ∷ xs) (suc i) x all h lt is =
-    let more : suc i + 1 ≡ suc (i + 1) = omega arith in
-    subst (λ (n : ℕ). AllByRecursion P (map f (take n (y ∷ xs)))) (sym more) (all.0, parts_more P f xs i x all.1 h (omega (arith, lt)) is)
-
-pub parts_end : {A B : Type 0} (P : B → Type 0) (f : A → B) (xs : List A) (i : ℕ) → length xs ≤ i → AllByRecursion P (map f (take i xs)) → AllByRecursion P (map f xs)
-parts_end P f xs i le all = subst (λ (ys : List _). AllByRecursion P (map f ys)) (take_all i xs le) all
 
 pub on_err : {X E : Type 0} (r : Result X E) (P : Type 0) → P → OnErr r P
 on_err (Ok x) P h = tt

@@ -64,11 +64,15 @@ impl Items<u8> {
             items: Vec::from_slice(alloc, bytes)?,
         })
     }
+}
 
-    /// The same bytes again.
-    pub fn copy(&self, alloc: Global) -> Result<Items<u8>, AllocError>
+impl<T: Copy> Items<T> {
+    /// The same items again.
+    pub fn copy(&self, alloc: Global) -> Result<Items<T>, AllocError>
         ensures { IfOk result (λ items. items ≡ self.now) }
     {
-        Items::of_bytes(alloc, &self.items)
+        Ok(Items {
+            items: Vec::from_slice(alloc, &self.items)?,
+        })
     }
 }

@@ -2,27 +2,8 @@
 
 ghost use Rattle.std.specs.Prelude.{◌≡◌, IfOk};
 
-use crate::{Event, OpenPair, SessionEvent, UpdateEvent};
-use mj_base::{Ino, Items, Tid};
+use crate::{Event, SessionEvent, UpdateEvent};
 use std::alloc::{AllocError, Global};
-
-fn copy_tids(alloc: Global, tids: &Items<Tid>) -> Result<Items<Tid>, AllocError>
-    ensures { IfOk result (λ same. same ≡ tids.now) }
-{
-    Ok(Items::from_vec(Vec::from_slice(alloc, tids.as_slice())?))
-}
-
-fn copy_inos(alloc: Global, inos: &Items<Ino>) -> Result<Items<Ino>, AllocError>
-    ensures { IfOk result (λ same. same ≡ inos.now) }
-{
-    Ok(Items::from_vec(Vec::from_slice(alloc, inos.as_slice())?))
-}
-
-fn copy_pairs(alloc: Global, pairs: &Items<OpenPair>) -> Result<Items<OpenPair>, AllocError>
-    ensures { IfOk result (λ same. same ≡ pairs.now) }
-{
-    Ok(Items::from_vec(Vec::from_slice(alloc, pairs.as_slice())?))
-}
 
 impl SessionEvent {
     pub fn copy(&self, alloc: Global) -> Result<SessionEvent, AllocError>
@@ -33,7 +14,7 @@ impl SessionEvent {
             kind: self.kind,
             oldest: self.oldest,
             tid: self.tid,
-            dropped: copy_tids(alloc, &self.dropped)?,
+            dropped: self.dropped.copy(alloc)?,
         })
     }
 }
@@ -48,7 +29,7 @@ impl UpdateEvent {
             tid: self.tid,
             ino: self.ino,
             oldest: self.oldest,
-            dropped: copy_tids(alloc, &self.dropped)?,
+            dropped: self.dropped.copy(alloc)?,
             next: self.next,
             opened: self.opened,
             released: self.released,
@@ -62,11 +43,11 @@ impl Event {
         ensures { IfOk result (λ same. same ≡ self.now) }
     {
         Ok(match self {
-            Event::SubtreeMap(dirs) => Event::SubtreeMap(copy_inos(alloc, dirs)?),
+            Event::SubtreeMap(dirs) => Event::SubtreeMap(dirs.copy(alloc)?),
             Event::Reset => Event::Reset,
             Event::Session(event) => Event::Session(event.copy(alloc)?),
             Event::Update(event) => Event::Update(event.copy(alloc)?),
-            Event::Reopen(pairs) => Event::Reopen(copy_pairs(alloc, pairs)?),
+            Event::Reopen(pairs) => Event::Reopen(pairs.copy(alloc)?),
             Event::NoOp(len) => Event::NoOp(*len),
         })
     }

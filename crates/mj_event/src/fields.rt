@@ -8,7 +8,9 @@ ghost use Rattle.mj_event.specs.Event.{is_count, most_dropped, client_follows, i
 ghost use Rattle.mj_event.specs.EventReading.{numbers_at, rising_at, session_kind_of, session_at, update_at, pair_at, pairs_at, are_zeros, pad_at};
 
 use crate::{OpenPair, SessionEvent, SessionKind, UpdateEvent};
-use mj_base::{ClientId, Cursor, Fault, Ino, Items, Tid};
+use mj_base::{
+    ClientId, Cursor, Fault, Ino, Items, MAX_DIRS, MAX_DROPPED, MAX_REOPENED, Tid,
+};
 use mj_meta::{blob_field, optional_field};
 use std::alloc::Global;
 
@@ -81,7 +83,7 @@ fn dropped_field(alloc: Global, most: u32, cursor: &mut Cursor<'_>) -> Result<It
 pub fn dirs_field(alloc: Global, cursor: &mut Cursor<'_>) -> Result<Items<Ino>, Fault>
     ensures { Reads (λ x. x) result cursor.new (numbers_at 1 64 cursor.old) }
 {
-    let count = count_field(1, 64, cursor)?;
+    let count = count_field(1, MAX_DIRS, cursor)?;
     let inos = rising_inos(alloc, count, cursor)?;
     Ok(Items::from_vec(inos))
 }
@@ -103,7 +105,7 @@ fn most_dropped(kind: SessionKind) -> u32
 {
     match kind {
         SessionKind::Open => 0,
-        SessionKind::Close => 64,
+        SessionKind::Close => MAX_DROPPED,
     }
 }
 
@@ -165,7 +167,7 @@ pub fn update_field(alloc: Global, cursor: &mut Cursor<'_>) -> Result<UpdateEven
     let tid = Tid(cursor.read_u64()?);
     let ino = Ino(cursor.read_u64()?);
     let oldest = optional_tid(cursor)?;
-    let dropped = dropped_field(alloc, 64, cursor)?;
+    let dropped = dropped_field(alloc, MAX_DROPPED, cursor)?;
     let next = optional_ino(cursor)?;
     let opened = optional_ino(cursor)?;
     let released = optional_ino(cursor)?;
@@ -236,7 +238,7 @@ fn rising_pairs(alloc: Global, count: u32, cursor: &mut Cursor<'_>) -> Result<Ve
 pub fn pairs_field(alloc: Global, cursor: &mut Cursor<'_>) -> Result<Items<OpenPair>, Fault>
     ensures { Reads (λ x. x) result cursor.new (pairs_at cursor.old) }
 {
-    let count = count_field(1, 1024, cursor)?;
+    let count = count_field(1, MAX_REOPENED, cursor)?;
     let pairs = rising_pairs(alloc, count, cursor)?;
     Ok(Items::from_vec(pairs))
 }

@@ -4,6 +4,7 @@ use Rattle.std.specs.List.{flat_map, AllByRecursion}
 use Rattle.mj_base.specs.Reading.{two, four, eight, optional}
 use Rattle.mj_base.specs.InOrder.{is_rising}
 use Rattle.mj_base.specs.ObjectName.{object_text, object_order, IsObjectName}
+use Rattle.mj_base.specs.declared.limits.TheConstants.{MAX_FILE_BYTES}
 use Rattle.mj_store.specs.declared.act.Pair.{Pair}
 use Rattle.mj_store.specs.declared.held.HeldObject.{HeldObject}
 use Rattle.mj_memstore.specs.Holding.{names_of, HasKeysInOrder}
@@ -29,7 +30,7 @@ image_bytes hs = magic ++ four (length hs) ++ flat_map object_bytes hs
 
 -- the most bytes that an image has
 abbrev pub most_bytes : ℕ
-most_bytes = 1073741824
+most_bytes = MAX_FILE_BYTES
 
 -- a key and a value whose lengths fit their fields
 abbrev pub IsShortPair : Pair → Type 0

@@ -4,7 +4,7 @@ use mj_base::Fault;
 use std::alloc::{AllocError, AllocFailed};
 
 /// What is wrong with a field, with the number of the bytes from its first one to the end.
-#[derive(Clone, Copy, Debug, PartialEq, Eq)]
+#[derive(Clone, Copy)]
 pub enum Flaw {
     Cut(usize),
     BadName(usize),
@@ -13,7 +13,7 @@ pub enum Flaw {
 }
 
 /// Why reading stops.
-#[derive(Clone, Copy, Debug, PartialEq, Eq)]
+#[derive(Clone, Copy)]
 pub enum Stop {
     Memory,
     At(Flaw),

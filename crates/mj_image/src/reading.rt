@@ -8,13 +8,9 @@ ghost use Rattle.mj_image.specs.Whole.{image_of, refusal_of, IsImageRefusal};
 use crate::flaw::{Flaw, Stop};
 use crate::objects::read_objects;
 use crate::refusal::ImageRefusal;
-use mj_base::Cursor;
+use mj_base::{Cursor, IMAGE_MAGIC, MAX_FILE_BYTES};
 use mj_memstore::{HeldObject, MemStore};
 use std::alloc::Global;
-
-pub const MAGIC: &[u8; 8] = b"MJIMG001";
-
-pub const MOST_BYTES: usize = 1_073_741_824;
 
 /// A store that holds the objects of an image, and fails no call but a submission that finds no number left.
 pub fn image_read(alloc: Global, bytes: &[u8]) -> Result<MemStore, ImageRefusal>
@@ -30,13 +26,13 @@ fn objects_of(alloc: Global, bytes: &[u8]) -> Result<Vec<HeldObject>, ImageRefus
     ensures read { IfOk result (λ v. image_of bytes.now ≡ Ok v.items) }
     ensures refused { IfErr result (λ why. IsImageRefusal why (image_of bytes.now)) }
 {
-    if !bytes.starts_with(MAGIC) {
+    if !bytes.starts_with(IMAGE_MAGIC) {
         return Err(ImageRefusal::BadMagic);
     }
-    if bytes.len() > MOST_BYTES {
+    if bytes.len() > MAX_FILE_BYTES as usize {
         return Err(ImageRefusal::TooLarge(bytes.len() as u64));
     }
-    let mut cursor = Cursor::new(&bytes[MAGIC.len()..]);
+    let mut cursor = Cursor::new(&bytes[IMAGE_MAGIC.len()..]);
     match read_objects(alloc, &mut cursor) {
         Ok(objects) => {
             if cursor.is_empty() {

@@ -8,10 +8,9 @@ ghost use Rattle.mj_memstore.specs.Store.{memory_state, memory_objects};
 ghost use Rattle.mj_image.specs.Image.{long_bytes, pair_bytes, object_bytes, image_bytes, HasShortHead, IsShortPair, IsStorable};
 ghost use Rattle.mj_image.specs.Whole.{image_of, IsWriteRefusal};
 
-use crate::reading::{MAGIC, MOST_BYTES};
 use crate::refusal::ImageWriteRefusal;
 use crate::size::{image_len, text_of};
-use mj_base::{Items, put_u8, put_u16, put_u32, put_u64};
+use mj_base::{IMAGE_MAGIC, Items, MAX_FILE_BYTES, put_u8, put_u16, put_u32, put_u64};
 use mj_memstore::{HeldObject, MemStore};
 use mj_store::Pair;
 use std::alloc::{AllocError, Global};
@@ -26,7 +25,7 @@ pub fn image_write(alloc: Global, store: &MemStore) -> Result<Vec<u8>, ImageWrit
     let all = store.all_objects(alloc)?;
     let objects = all.as_slice();
     let len = image_len(alloc, objects)?;
-    if len > MOST_BYTES {
+    if len > MAX_FILE_BYTES as usize {
         return Err(ImageWriteRefusal::TooLong(len as u64));
     }
     let mut out = Vec::with_capacity(alloc, len)?;
@@ -39,7 +38,7 @@ fn append_image(alloc: Global, objects: &[&HeldObject], out: &mut Vec<u8>) -> Re
     requires objects { AllByRecursion IsStorable (map (λ h. h.now) objects.now) }
     ensures { OnOk result (out.new.items ≡ out.old.items ++ image_bytes (map (λ h. h.now) objects.now)) }
 {
-    out.extend_from_slice(MAGIC)?;
+    out.extend_from_slice(IMAGE_MAGIC)?;
     put_u32(objects.len() as u32, out)?;
     append_objects(alloc, objects, out)
 }

@@ -3,7 +3,7 @@
 use mj_layout::Header;
 
 /// The operation that was given last, and is not yet sent.
-#[derive(Clone, Copy, Debug, PartialEq, Eq)]
+#[derive(Clone, Copy)]
 pub enum Offer {
     /// The write of the stream up to here.
     Flush(u64),
@@ -14,7 +14,7 @@ pub enum Offer {
 
 /// An operation that is out, with what it is about: the positions that a write covers, the positions from the trimmed
 /// one to expire that a header leaves behind, or the object that is removed.
-#[derive(Clone, Copy, Debug, PartialEq, Eq)]
+#[derive(Clone, Copy)]
 pub struct Sent {
     pub op: u64,
     pub from: u64,
@@ -22,7 +22,7 @@ pub struct Sent {
 }
 
 /// An operation that was sent, and whether it is acknowledged.
-#[derive(Clone, Copy, Debug)]
+#[derive(Clone, Copy)]
 pub struct Slot {
     pub sent: Sent,
     pub done: bool,

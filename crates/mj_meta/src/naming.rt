@@ -13,7 +13,7 @@ ghost use Rattle.mj_meta.specs.BlobReading.{name_at};
 ghost use Rattle.mj_meta.specs.Earlier.{earlier_names, DoRise, NamesRise};
 
 use crate::{FullBit, RemoteBit};
-use mj_base::{Cursor, Fault, Name, NameRefusal};
+use mj_base::{Cursor, Fault, MAX_NAME, Name, NameRefusal};
 use std::alloc::{AllocError, Global};
 use std::cmp::Ordering;
 
@@ -102,7 +102,7 @@ pub fn read_name(
 {
     let left = cursor.left();
     let len = cursor.read_u16()?;
-    if len < 1 || len > 255 {
+    if len < 1 || len as usize > MAX_NAME {
         return Err(Fault::Left(left));
     }
     let left = cursor.left();

@@ -9,13 +9,10 @@ ghost use Rattle.mj_probe.specs.Looks.{Looks};
 ghost use Rattle.mj_probe.specs.Missing.{IsLeastBehind, IsLeastMissing};
 
 use crate::look::size_of;
-use mj_base::RankNo;
+use mj_base::{POSITIONS_END, RankNo};
 use mj_layout::{Layout, Spot};
 use mj_store::{ObjectStore, ReadRefusal, StoreFault};
 use std::alloc::Global;
-
-/// Positions end here.
-const POSITIONS_END: u64 = 1 << 62;
 
 /// Where the stream from a position on ends: at the least position at or above it whose offset is not below its object's
 /// size, and at 2^62 where there is none below that. It asks for the sizes of the objects from the position's set to

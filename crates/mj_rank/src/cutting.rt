@@ -8,16 +8,11 @@ ghost use Rattle.mj_store.specs.Object.{HasShortKeys};
 ghost use Rattle.mj_layout.specs.Placing.{set_of};
 ghost use Rattle.mj_recovery.specs.Orderly.{window_end};
 
-use mj_base::{ObjectName, OpNo, RankNo};
+use mj_base::{LAST_POSITION, ObjectName, OpNo, RankNo, WINDOW};
 use mj_journaler::tail_cut;
 use mj_layout::{Layout, journal_object};
 use mj_store::{ObjectOp, ObjectStore, StoreFault};
 use std::alloc::{AllocError, Global};
-
-/// The last position.
-const LAST_POSITION: u64 = 0x3fff_ffff_ffff_ffff;
-/// How many periods a write may be above what is safe.
-const WINDOW: u64 = 4;
 
 /// A truncation that was sent and is not acknowledged, of one object of the journal.
 #[derive(Clone, Copy)]

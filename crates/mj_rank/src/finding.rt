@@ -9,13 +9,10 @@ ghost use Rattle.mj_rank.specs.Finding.{Finds, found_in};
 
 use crate::found::Found;
 use crate::refusal::MountRefusal;
-use mj_base::{Damage, RankNo};
+use mj_base::{Damage, POSITIONS_END, RankNo};
 use mj_replay::{Replayed, replay};
 use mj_store::ObjectStore;
 use std::alloc::Global;
-
-/// Where positions end.
-const POSITIONS_END: u64 = 1 << 62;
 
 /// Reads a rank's journal, and makes the cells of its events. Nothing is submitted.
 pub fn read_found<S: ObjectStore>(

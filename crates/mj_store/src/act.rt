@@ -3,14 +3,14 @@
 use mj_base::{Items, ObjectName};
 
 /// A key of an object, with its value.
-#[derive(Debug, Drop)]
+#[derive(Drop)]
 pub struct Pair {
     pub key: Items<u8>,
     pub value: Items<u8>,
 }
 
 /// What an operation on keys does to the object's head.
-#[derive(Debug, Drop)]
+#[derive(Drop)]
 pub enum HeadAct {
     /// It stays.
     Leave,
@@ -19,7 +19,7 @@ pub enum HeadAct {
 }
 
 /// What an operation does to its object. `Write` and `Keys` make an absent object, the others do nothing to one.
-#[derive(Debug, Drop)]
+#[derive(Drop)]
 pub enum ObjectAct {
     /// These bytes at this offset. A gap before them is filled with zeros.
     Write {

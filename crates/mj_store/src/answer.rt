@@ -23,7 +23,7 @@ pub struct StoreFault {
 }
 
 /// Some of an object's pairs in the order of their keys.
-#[derive(Debug, Drop)]
+#[derive(Drop)]
 pub struct Page {
     /// Whether there is such an object.
     pub present: bool,

@@ -21,7 +21,7 @@ pub enum Want<'a> {
 }
 
 /// What a want was answered with.
-#[derive(Debug, Drop)]
+#[derive(Drop)]
 pub enum Got {
     Bytes(Items<u8>),
     Keys(Page),

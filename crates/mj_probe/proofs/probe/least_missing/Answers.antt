@@ -15,11 +15,11 @@ least_in_set-requires-clause-low g c = set_small c.args.layout.now c.is_sound.en
 pub returns-in_err-at-clause-looks : goal.returns-in_err-at-clause-looks
 returns-in_err-at-clause-looks g c = looks_then c.loop-set.invariant.looks c.in_err-at.ensures.looks
 
-pub returns-then-at-lt-END-clause-looks : goal.returns-then-at-lt-END-clause-looks
-returns-then-at-lt-END-clause-looks g c = looks_then c.loop-set.invariant.looks c.in_ok-at.ensures.looks
+pub returns-then-at-lt-POSITIONS_END-clause-looks : goal.returns-then-at-lt-POSITIONS_END-clause-looks
+returns-then-at-lt-POSITIONS_END-clause-looks g c = looks_then c.loop-set.invariant.looks c.in_ok-at.ensures.looks
 
-pub returns-then-at-lt-END-clause-told : goal.returns-then-at-lt-END-clause-told
-returns-then-at-lt-END-clause-told g c = λ s is still.
+pub returns-then-at-lt-POSITIONS_END-clause-told : goal.returns-then-at-lt-POSITIONS_END-clause-told
+returns-then-at-lt-POSITIONS_END-clause-told g c = λ s is still.
     let told = g.S.ObjectStore.state in
     let layout = c.args.layout.now in
     let from = c.args.from in
@@ -27,8 +27,8 @@ returns-then-at-lt-END-clause-told g c = λ s is still.
     let at = c.in_ok-at.at in
     let now = still_after s (told c.args.store.now) (told c.loop-set.store) is still c.loop-set.invariant.looks.stays in
     let later : from / period layout * layout.sc ≤ set * layout.sc = mul-le (from / period layout) layout.sc set layout.sc (omega (arith, c.loop-set.auto.set, ap (λ p. from / p) c.period-period.ensures)) (omega arith) in
-    end_there (contents s) c.args.rank layout c.is_sound.ensures from set at (omega (arith, c.requires)) c.if-at-lt-END.true
-    (in_both (contents s) c.args.rank layout from (from / period layout * layout.sc) (set * layout.sc) (set * layout.sc + layout.sc) (2 ^ 62) at at later (omega arith) (omega (arith, c.if-at-lt-END.true))
+    end_there (contents s) c.args.rank layout c.is_sound.ensures from set at (omega (arith, c.requires)) c.if-at-lt-POSITIONS_END.true
+    (in_both (contents s) c.args.rank layout from (from / period layout * layout.sc) (set * layout.sc) (set * layout.sc + layout.sc) (2 ^ 62) at at later (omega arith) (omega (arith, c.if-at-lt-POSITIONS_END.true))
     (c.loop-set.invariant.found s is still) (c.in_ok-at.ensures.told s now still))
 
 pub loop-set-preserved : goal.loop-set-preserved
@@ -44,7 +44,7 @@ loop-set-preserved g c = record {
       let later : from / period layout * layout.sc ≤ set * layout.sc = mul-le (from / period layout) layout.sc set layout.sc (omega (arith, c.loop-set.auto.set, ap (λ p. from / p) c.period-period.ensures)) (omega arith) in
       let next : set * layout.sc + layout.sc ≡ (set + 1) * layout.sc = omega arith in
       subst (λ n. IsLeastMissing (contents s) c.args.rank layout from (from / period layout * layout.sc) n (2 ^ 62)) next
-      (in_both (contents s) c.args.rank layout from (from / period layout * layout.sc) (set * layout.sc) (set * layout.sc + layout.sc) (2 ^ 62) at (2 ^ 62) later (omega arith) (omega (arith, c.if-at-lt-END.false))
+      (in_both (contents s) c.args.rank layout from (from / period layout * layout.sc) (set * layout.sc) (set * layout.sc + layout.sc) (2 ^ 62) at (2 ^ 62) later (omega arith) (omega (arith, c.if-at-lt-POSITIONS_END.false))
       (c.loop-set.invariant.found s is still) (c.in_ok-at.ensures.told s now still));
 }
 
