@@ -14,14 +14,14 @@ use Rattle.std.proofs.lemmas.Result.{Ok-from_Ok_iff}
 use Rattle.mj_base.specs.ObjectText.{hex, hex_padded, file_object_text}
 
 -- a digit is no mark: it stands at '0' or above
-digit_low : (c : ℕ) → digit_value c < 16 → 48 ≤ c
+pub digit_low : (c : ℕ) → digit_value c < 16 → 48 ≤ c
 digit_low c h =
     elim (cases_lt c 48) [
       | inl lt ↦ let none : 36 < 16 = rw (lt-ltb c 48 lt) at h in absurd (omega arith)
       | inr ge ↦ ge
     ]
 
-digit_high : (c : ℕ) → digit_value c < 16 → c < 128
+pub digit_high : (c : ℕ) → digit_value c < 16 → c < 128
 digit_high c h =
     elim (cases_lt c 128) [
       | inl lt ↦ lt

@@ -8,7 +8,7 @@ mod fault_plan;
 mod files;
 mod host;
 mod law;
-mod limits;
+pub mod limits;
 mod list;
 mod memory;
 mod name;
@@ -30,12 +30,7 @@ pub use host::{HostFiles, HostSink};
 pub use law::{
     escapes_are_read_again, names_are_read, paths_are_read_again, records_are_read_again,
 };
-pub use limits::{
-    ENVELOPE, HEADER_BYTES, HEADER_MAGIC, IMAGE_MAGIC, LAST_POSITION, MAX_DIRS, MAX_DROPPED,
-    MAX_ENTRY, MAX_FILE_BYTES, MAX_MODE, MAX_NAME, MAX_OBJECT_SIZE, MAX_PATH, MAX_PAYLOAD,
-    MAX_RANK, MAX_REOPENED, MAX_STRIPE_COUNT, MAX_TARGET, MIN_OBJECT_SIZE, MIN_STRIPE_UNIT,
-    MOST_UNSAFE, POSITIONS_END, SENTINEL, WINDOW,
-};
+pub use limits::MAX_FILE_BYTES;
 pub use list::Items;
 pub use memory::{MemFiles, MemSink};
 pub use name::{Name, NameRefusal};

@@ -1,6 +1,7 @@
 -- The envelope is read as it is spelled, and each proper front of it is a part.
 use Rattle.std.proofs.Common.{◌≡◌, ℕ, zero, suc, ◌+◌, ◌^◌, ◌<◌, ◌≤◌, Bool, true, false, cond, List, [], ◌∷◌, ◌++◌, inl, inr, length, take, drop, refl, ◌∙◌, ap, arith, append_assoc, length-append, sym}
 use Rattle.std.specs.Prelude.{not, nat_lt, nat_le, ◌&&◌, ◌==◌, if◌then◌else◌}
+use Rattle.std.specs.Cmp.Lexicographic.{same_text}
 use Rattle.std.specs.Int.{w32, w64, from_le_bytes}
 use Rattle.std.proofs.lemmas.Bool.{cond-true, cond-false, lt-ltb, le-ltb, leb-true, ltb-false, eq-eqb, eqb-true, cases_lt}
 use Rattle.std.proofs.lemmas.List.{length-take, length-drop, take_at, drop_at, take-append-drop, take_all, get_or-drop, get_or-take, get_or_past, drop-drop}
@@ -97,14 +98,6 @@ whole_if : (b : Bool) (r s : EntryCase) (payload : List ℕ) (ends : ℕ) → ((
 whole_if true r s payload ends never e = absurd (never payload ends e)
 whole_if false r s payload ends never e = (refl, e)
 
-same_is : (xs ys : List ℕ) → same_bytes xs ys ≡ true → xs ≡ ys
-same_is [] [] e = refl
-same_is [] (y ∷ ys) e = absurd cc
-same_is (x ∷ xs) [] e = absurd cc
-same_is (x ∷ xs) (y ∷ ys) e =
-    let both = true_and (x == y) (same_bytes xs ys) e in
-    ap (λ (z : ℕ). z ∷ xs) (eqb-true x y both.0) ∙ ap (λ (zs : List ℕ). y ∷ zs) (same_is xs ys both.1)
-
 whole_is : (p q : List ℕ) (n m : ℕ) → Whole p n ≡ Whole q m → (p ≡ q) × (n ≡ m)
 whole_is p q n m e = (cc, cc)
 
@@ -185,7 +178,7 @@ made bytes payload at ends fits e =
     let long : n + 20 ≤ length bytes = ltb-false (length bytes) (n + 20) d.0 in
     let same : length payload ≡ n = sized n bytes payload g.0 long in
     record {
-      sentinel = same_is (take 8 bytes) (take (length bytes) sentinel) a.0 ∙ all_of (length bytes) front;
+      sentinel = same_text (take 8 bytes) (take (length bytes) sentinel) (sym a.0) ∙ all_of (length bytes) front;
       length_is = four_is (drop 8 bytes) (bytes_drop 8 bytes fits) (omega (arith, length-drop 8 bytes, front)) ∙ ap four (sym same);
       payload_is = ap (λ k. take k (drop 12 bytes)) same ∙ g.0;
       start = ap (λ k. take 8 (drop (k + 12) bytes)) same ∙ (eight_is (drop (n + 12) bytes) (bytes_drop (n + 12) bytes fits) (omega (arith, length-drop (n + 12) bytes, long)) ∙ ap eight (eqb-true start at f.0));

@@ -8,9 +8,8 @@ ghost use Rattle.mj_event.specs.Event.{is_count, most_dropped, client_follows, i
 ghost use Rattle.mj_event.specs.EventReading.{numbers_at, rising_at, session_kind_of, session_at, update_at, pair_at, pairs_at, are_zeros, pad_at};
 
 use crate::{OpenPair, SessionEvent, SessionKind, UpdateEvent};
-use mj_base::{
-    ClientId, Cursor, Fault, Ino, Items, MAX_DIRS, MAX_DROPPED, MAX_REOPENED, Tid,
-};
+use mj_base::limits::{FIRST_OP, LAST_OP, MAX_DIRS, MAX_DROPPED, MAX_REOPENED};
+use mj_base::{ClientId, Cursor, Fault, Ino, Items, Tid};
 use mj_meta::{blob_field, optional_field};
 use std::alloc::Global;
 
@@ -133,7 +132,7 @@ fn op_field(cursor: &mut Cursor<'_>) -> Result<u8, Fault>
 {
     let left = cursor.left();
     let op = cursor.read_u8()?;
-    if op < 3 || op > 12 {
+    if op < FIRST_OP || op > LAST_OP {
         return Err(Fault::Left(left));
     }
     Ok(op)

@@ -9,6 +9,7 @@ ghost use Rattle.mj_event.specs.EventRefused.{IsEventRefusal};
 
 use crate::Event;
 use crate::fields::{dirs_field, pad_field, pairs_field, session_field, update_field};
+use mj_base::limits::{NO_OP, REOPEN, RESET, SESSION, SUBTREE_MAP, UPDATE};
 use mj_base::{Cursor, Fault};
 use std::alloc::Global;
 
@@ -28,12 +29,12 @@ fn event_field(alloc: Global, cursor: &mut Cursor<'_>) -> Result<Event, Fault>
 {
     let left = cursor.left();
     match cursor.read_u32()? {
-        2 => Ok(Event::SubtreeMap(dirs_field(alloc, cursor)?)),
-        9 => Ok(Event::Reset),
-        10 => Ok(Event::Session(session_field(alloc, cursor)?)),
-        20 => Ok(Event::Update(update_field(alloc, cursor)?)),
-        22 => Ok(Event::Reopen(pairs_field(alloc, cursor)?)),
-        51 => Ok(Event::NoOp(pad_field(cursor)?)),
+        SUBTREE_MAP => Ok(Event::SubtreeMap(dirs_field(alloc, cursor)?)),
+        RESET => Ok(Event::Reset),
+        SESSION => Ok(Event::Session(session_field(alloc, cursor)?)),
+        UPDATE => Ok(Event::Update(update_field(alloc, cursor)?)),
+        REOPEN => Ok(Event::Reopen(pairs_field(alloc, cursor)?)),
+        NO_OP => Ok(Event::NoOp(pad_field(cursor)?)),
         _ => Err(Fault::Left(left)),
     }
 }

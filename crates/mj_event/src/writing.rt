@@ -7,6 +7,7 @@ ghost use Rattle.mj_event.specs.Event.{numbers, pair_bytes, session_bytes, sessi
 ghost use Rattle.mj_event.specs.Event.EventType.{AMap, AReset, ASession, AnUpdate, AReopen, ANoOp};
 
 use crate::{Event, OpenPair, SessionEvent, SessionKind, UpdateEvent};
+use mj_base::limits::{NO_OP, REOPEN, RESET, SESSION, SUBTREE_MAP, UPDATE};
 use mj_base::{Ino, Tid, put_u8, put_u32, put_u64};
 use mj_meta::append_blob;
 use std::alloc::{AllocError, Global};
@@ -30,24 +31,24 @@ fn append_event(event: &Event, out: &mut Vec<u8>) -> Result<(), AllocError>
 {
     match event {
         Event::SubtreeMap(dirs) => {
-            put_u32(2, out)?;
+            put_u32(SUBTREE_MAP, out)?;
             append_dirs(dirs.as_slice(), out)
         }
-        Event::Reset => put_u32(9, out),
+        Event::Reset => put_u32(RESET, out),
         Event::Session(session) => {
-            put_u32(10, out)?;
+            put_u32(SESSION, out)?;
             append_session(session, out)
         }
         Event::Update(update) => {
-            put_u32(20, out)?;
+            put_u32(UPDATE, out)?;
             append_update(update, out)
         }
         Event::Reopen(pairs) => {
-            put_u32(22, out)?;
+            put_u32(REOPEN, out)?;
             append_pairs(pairs.as_slice(), out)
         }
         Event::NoOp(pad) => {
-            put_u32(51, out)?;
+            put_u32(NO_OP, out)?;
             append_pad(*pad, out)
         }
     }

@@ -1,6 +1,7 @@
 -- A front of what may be an entry may be one.
 use Rattle.std.proofs.Common.{◌≡◌, ◌⊎◌, inl, inr, ℕ, ◌+◌, ◌-◌, ◌<◌, ◌≤◌, Bool, true, false, cond, List, [], ◌∷◌, length, take, drop, min, refl, sym, ◌∙◌, ap, arith}
 use Rattle.std.specs.Prelude.{not, nat_lt, ◌==◌}
+use Rattle.std.specs.Cmp.Lexicographic.{same_text}
 use Rattle.std.specs.Int.{w32, w64, from_le_bytes}
 use Rattle.std.proofs.lemmas.Bool.{cases_lt, eq-eqb, eqb-true, lt-ltb, le-ltb, ltb-true, and_from, and_parts}
 use Rattle.std.proofs.lemmas.List.{length-take, take-take, drop-take}
@@ -26,14 +27,6 @@ cases_bool false = inr refl
 after_test : (b : Bool) (s : EntryCase) → b ≡ false → cond b Part s ≡ Part → s ≡ Part
 after_test true s f e = absurd cc
 after_test false s f e = e
-
-same_is : (xs ys : List ℕ) → same_bytes xs ys ≡ true → xs ≡ ys
-same_is [] [] e = refl
-same_is [] (y ∷ ys) e = absurd cc
-same_is (x ∷ xs) [] e = absurd cc
-same_is (x ∷ xs) (y ∷ ys) e =
-    let both = and_parts (x == y) (same_bytes xs ys) e in
-    ap (λ (z : ℕ). z ∷ xs) (eqb-true x y both.0) ∙ ap (λ (zs : List ℕ). y ∷ zs) (same_is xs ys both.1)
 
 same_itself : (xs : List ℕ) → same_bytes xs xs ≡ true
 same_itself [] = refl
@@ -61,7 +54,7 @@ same_length bytes k h =
 
 sentinel_front : (bytes : List ℕ) (k : ℕ) → same_bytes (take 8 bytes) (take (length bytes) sentinel) ≡ true → same_bytes (take 8 (take k bytes)) (take (length (take k bytes)) sentinel) ≡ true
 sentinel_front bytes k e =
-    let is : take 8 bytes ≡ take (length bytes) sentinel = same_is (take 8 bytes) (take (length bytes) sentinel) e in
+    let is : take 8 bytes ≡ take (length bytes) sentinel = same_text (take 8 bytes) (take (length bytes) sentinel) (sym e) in
     let front : take 8 (take k bytes) ≡ take (length (take k bytes)) sentinel =
     take_min_take 8 k bytes
     ∙ (same_take (min 8 k) (min k 8) bytes (omega arith)

@@ -8,7 +8,8 @@ ghost use Rattle.mj_image.specs.Whole.{image_of, refusal_of, IsImageRefusal};
 use crate::flaw::{Flaw, Stop};
 use crate::objects::read_objects;
 use crate::refusal::ImageRefusal;
-use mj_base::{Cursor, IMAGE_MAGIC, MAX_FILE_BYTES};
+use mj_base::Cursor;
+use mj_base::limits::{IMAGE_MAGIC, MAX_FILE_BYTES};
 use mj_memstore::{HeldObject, MemStore};
 use std::alloc::Global;
 

@@ -10,7 +10,8 @@ ghost use Rattle.mj_image.specs.Whole.{image_of, IsWriteRefusal};
 
 use crate::refusal::ImageWriteRefusal;
 use crate::size::{image_len, text_of};
-use mj_base::{IMAGE_MAGIC, Items, MAX_FILE_BYTES, put_u8, put_u16, put_u32, put_u64};
+use mj_base::limits::{IMAGE_MAGIC, MAX_FILE_BYTES};
+use mj_base::{Items, put_u8, put_u16, put_u32, put_u64};
 use mj_memstore::{HeldObject, MemStore};
 use mj_store::Pair;
 use std::alloc::{AllocError, Global};

@@ -4,7 +4,7 @@ ghost use Rattle.std.specs.Prelude.{◌≡◌, ◌+◌, ◌-◌, ◌*◌, ◌<�
 ghost use Rattle.mj_journaler.specs.Buffered.{joined, first_block};
 ghost use Rattle.mj_entry.specs.Entry.{entry_bytes, entry_length, IsPayload};
 
-use mj_base::ENVELOPE;
+use mj_base::limits::ENVELOPE;
 use mj_entry::entry_write;
 use std::alloc::{AllocError, Global};
 use std::collections::VecDeque;

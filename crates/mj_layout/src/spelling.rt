@@ -7,7 +7,8 @@ ghost use Rattle.mj_layout.specs.Gives.{Gives, Reads};
 ghost use Rattle.mj_layout.specs.Header.{header_bytes, layout_bytes, header_of, fields_at, sound_layout_at, format_at, phase_at, ends, exactly, uncut, is_ordered, phase_code, phase_of, IsHeader};
 
 use crate::{Header, HeaderRefusal, Layout, Phase};
-use mj_base::{Cursor, HEADER_BYTES, HEADER_MAGIC, POSITIONS_END, put_u8, put_u32, put_u64};
+use mj_base::limits::{HEADER_BYTES, HEADER_MAGIC, POSITIONS_END};
+use mj_base::{Cursor, put_u8, put_u32, put_u64};
 use std::alloc::{AllocError, Global};
 
 impl Header {

@@ -13,7 +13,8 @@ ghost use Rattle.mj_meta.specs.BlobReading.{name_at};
 ghost use Rattle.mj_meta.specs.Earlier.{earlier_names, DoRise, NamesRise};
 
 use crate::{FullBit, RemoteBit};
-use mj_base::{Cursor, Fault, MAX_NAME, Name, NameRefusal};
+use mj_base::limits::MAX_NAME;
+use mj_base::{Cursor, Fault, Name, NameRefusal};
 use std::alloc::{AllocError, Global};
 use std::cmp::Ordering;
 

@@ -9,7 +9,8 @@ ghost use Rattle.mj_probe.specs.Looks.{Looks};
 ghost use Rattle.mj_probe.specs.Missing.{IsLeastBehind, IsLeastMissing};
 
 use crate::look::size_of;
-use mj_base::{POSITIONS_END, RankNo};
+use mj_base::RankNo;
+use mj_base::limits::POSITIONS_END;
 use mj_layout::{Layout, Spot};
 use mj_store::{ObjectStore, ReadRefusal, StoreFault};
 use std::alloc::Global;

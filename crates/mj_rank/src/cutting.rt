@@ -8,7 +8,8 @@ ghost use Rattle.mj_store.specs.Object.{HasShortKeys};
 ghost use Rattle.mj_layout.specs.Placing.{set_of};
 ghost use Rattle.mj_recovery.specs.Orderly.{window_end};
 
-use mj_base::{LAST_POSITION, ObjectName, OpNo, RankNo, WINDOW};
+use mj_base::limits::{LAST_POSITION, WINDOW};
+use mj_base::{ObjectName, OpNo, RankNo};
 use mj_journaler::tail_cut;
 use mj_layout::{Layout, journal_object};
 use mj_store::{ObjectOp, ObjectStore, StoreFault};

@@ -10,7 +10,8 @@ ghost use Rattle.mj_rank.specs.Mount.{subtree_map};
 ghost use Rattle.mj_rank.specs.Segment.{due_map, event_refusal, event_end, events_after, is_due, log_behind, map_length, most_events};
 ghost use Rattle.mj_rank.specs.Entries.{map_of};
 
-use mj_base::{ENVELOPE, Ino, Items, RankNo};
+use mj_base::limits::ENVELOPE;
+use mj_base::{Ino, Items, RankNo};
 use mj_event::{Event, event_write};
 use mj_journaler::{AppendRefusal, Journaler};
 use mj_recovery::ROOT;

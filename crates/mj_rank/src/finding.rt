@@ -9,7 +9,8 @@ ghost use Rattle.mj_rank.specs.Finding.{Finds, found_in};
 
 use crate::found::Found;
 use crate::refusal::MountRefusal;
-use mj_base::{Damage, POSITIONS_END, RankNo};
+use mj_base::limits::POSITIONS_END;
+use mj_base::{Damage, RankNo};
 use mj_replay::{Replayed, replay};
 use mj_store::ObjectStore;
 use std::alloc::Global;

@@ -6,7 +6,8 @@ ghost use Rattle.mj_rank.specs.Log.{log_value, is_unsent};
 ghost use Rattle.mj_rank.specs.Mount.{first_log, first_segment, next_header, serving_header};
 
 use crate::entries::map_payload;
-use mj_base::{ENVELOPE, RankNo};
+use mj_base::RankNo;
+use mj_base::limits::ENVELOPE;
 use mj_cache::Cache;
 use mj_journaler::Journaler;
 use mj_layout::{Header, Phase};
