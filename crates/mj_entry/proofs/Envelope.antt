@@ -6,7 +6,7 @@ use Rattle.std.specs.Int.{w32, w64, from_le_bytes}
 use Rattle.std.proofs.lemmas.Bool.{cond-true, cond-false, lt-ltb, le-ltb, leb-true, ltb-false, eq-eqb, eqb-true, cases_lt}
 use Rattle.std.proofs.lemmas.List.{length-take, length-drop, take_at, drop_at, take-append-drop, take_all, get_or-drop, get_or-take, get_or_past, drop-drop}
 use Rattle.std.proofs.lemmas.Nat.{from_le_bytes-to_le_bytes_4, from_le_bytes-to_le_bytes_8, le_bytes_4, le_bytes_8}
-use Rattle.mj_base.proofs.Codec.{IsBytes, true_and}
+use Rattle.mj_base.proofs.Codec.{IsBytes}
 use Rattle.mj_base.specs.InOrder.{same_bytes}
 use Rattle.mj_base.specs.Reading.{four, eight}
 use Rattle.mj_entry.specs.Entry.{sentinel, entry_bytes, is_payload_length, IsPayload, entry_at, EntryCase, Whole, Part, BadSentinel, BadLength, BadStart}

@@ -1,5 +1,5 @@
 -- One read, and one operation from its submission to its report.
-use Rattle.std.specs.Prelude.{◌≡◌, ◌⊎◌, ℕ, ◌≤◌, Option, Some, option_copied, List, [], ◌∷◌, length}
+use Rattle.std.specs.Prelude.{◌≡◌, ◌⊎◌, ℕ, ◌≤◌, Option, option_copied, List, [], ◌∷◌, length}
 use Rattle.mj_base.specs.declared.object.ObjectName.{ObjectName}
 use Rattle.mj_store.specs.declared.act.ObjectOp.{ObjectOp}
 use Rattle.mj_store.specs.declared.answer.PerformRefusal.{PerformRefusal}

@@ -10,7 +10,7 @@ use Rattle.mj_image.proofs.writing.image_write.Goals as goal
 pub append_image-requires-clause-count : goal.append_image-requires-clause-count
 append_image-requires-clause-count c =
     let xs = c.as_slice-objects.result.now in
-    let w = written (map (λ h. h.now) xs) _ _ c.in_ok-len.len (ap (map (λ h. h.now)) c.as_slice-objects.ensures.value ∙ c.in_ok-all.ensures.objects) c.in_ok-all.ensures.all c.in_ok-len.ensures.len c.in_ok-len.ensures.names c.if-len-gt-MOST_BYTES.false in
+    let w = written (map (λ h. h.now) xs) _ _ c.in_ok-len.len (ap (map (λ h. h.now)) c.as_slice-objects.ensures.value ∙ c.in_ok-all.ensures.objects) c.in_ok-all.ensures.all c.in_ok-len.ensures.len c.in_ok-len.ensures.names c.if-len.false in
     let few = w.fits.count in
     let same = length-map xs (λ h. h.now) in
     omega (arith, few, same)
@@ -18,12 +18,12 @@ append_image-requires-clause-count c =
 pub append_image-requires-clause-objects : goal.append_image-requires-clause-objects
 append_image-requires-clause-objects c =
     let xs = c.as_slice-objects.result.now in
-    (written (map (λ h. h.now) xs) _ _ c.in_ok-len.len (ap (map (λ h. h.now)) c.as_slice-objects.ensures.value ∙ c.in_ok-all.ensures.objects) c.in_ok-all.ensures.all c.in_ok-len.ensures.len c.in_ok-len.ensures.names c.if-len-gt-MOST_BYTES.false).fits.objects
+    (written (map (λ h. h.now) xs) _ _ c.in_ok-len.len (ap (map (λ h. h.now)) c.as_slice-objects.ensures.value ∙ c.in_ok-all.ensures.objects) c.in_ok-all.ensures.all c.in_ok-len.ensures.len c.in_ok-len.ensures.names c.if-len.false).fits.objects
 
 pub returns-clause-read_again : goal.returns-clause-read_again
 returns-clause-read_again c =
     let xs = c.as_slice-objects.result.now in
     let hs = map (λ h. h.now) xs in
     let same = ap (map (λ h. h.now)) c.as_slice-objects.ensures.value ∙ c.in_ok-all.ensures.objects in
-    let w = written hs _ _ c.in_ok-len.len same c.in_ok-all.ensures.all c.in_ok-len.ensures.len c.in_ok-len.ensures.names c.if-len-gt-MOST_BYTES.false in
+    let w = written hs _ _ c.in_ok-len.len same c.in_ok-all.ensures.all c.in_ok-len.ensures.len c.in_ok-len.ensures.names c.if-len.false in
     ap image_of (c.in_ok-append_image.ensures ∙ ap (λ (front : List ℕ). front ++ image_bytes hs) c.in_ok-out.ensures.items) ∙ image_again hs w.fits w.short ∙ ap (λ (objects : List HeldObject). Ok objects) same

@@ -1,4 +1,4 @@
-use Rattle.std.proofs.Common.{◌≡◌, arith, ap, sym, ◌<◌, ℕ, ◌+◌, List, length, drop, Ok, slice_index}
+use Rattle.std.proofs.Common.{◌≡◌, arith, ap, ◌<◌, ℕ, ◌+◌, List, length, drop, Ok, slice_index}
 use Rattle.std.proofs.lemmas.List.{get_or-drop}
 use Rattle.mj_meta.specs.BlobReading.{blob_at}
 use Rattle.mj_meta.proofs.BlobBounded.{blob_ends, blob_stops}
