@@ -13,7 +13,7 @@ use crate::counts::Counts;
 use crate::dentries::{full_inodes, kind_inodes, link_dirs, link_inodes, remotes};
 use crate::kinds::kinds_of;
 use crate::lowest::{least, least_client};
-use crate::opens::{first_open, opened_inodes};
+use crate::opened::{first_open, opened_inodes};
 use crate::parts::{kept_replies, next_ino, opens, sessions};
 use crate::range::{push_low, push_not_given, push_unknown};
 use crate::rows::{

@@ -7,7 +7,7 @@ mod dentries;
 mod judge;
 mod kinds;
 mod lowest;
-mod opens;
+mod opened;
 mod parts;
 mod range;
 mod reach;

@@ -3,3 +3,4 @@ pub mod Names
 pub mod Parts
 pub mod Gathered
 pub mod Whole
+pub mod Fitting
