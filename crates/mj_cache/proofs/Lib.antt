@@ -1,2 +1,4 @@
 pub mod PlainMaps
 pub mod RangesKept
+pub mod PlainReplies
+pub mod Replies

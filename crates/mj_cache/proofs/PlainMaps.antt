@@ -12,9 +12,9 @@ use Rattle.mj_maps.proofs.MapLaws.{Exact, exact_nat, from_entries-entries, entri
 use Rattle.mj_cells.specs.declared.cell.CellValue.{CellValue}
 use Rattle.mj_cells.specs.Cell.{key_cmp}
 use Rattle.mj_cells.specs.Table.{Dentry, Table, table_of}
-use Rattle.mj_recovery.specs.Sorted.{with_unit}
+use Rattle.mj_cache.specs.PlainParts.{with_unit}
 use Rattle.mj_recovery.specs.Tree.{ino_of, link_in, reachable, holding, by_inode, primaries, session_in, record_in, bare_tree, tree_of}
-use Rattle.mj_recovery.proofs.Finished.{true_from}
+use Rattle.mj_recovery.proofs.Bools.{true_from}
 use Rattle.mj_recovery.proofs.Merges.{sorted_keys}
 use Rattle.mj_judge.specs.Parts.{dentry_entry, session_entry, done_entry, open_entry, open_place}
 use Rattle.mj_judge.specs.Reached.{AreDirs}

@@ -3,3 +3,4 @@ pub mod Refused
 pub mod Inside
 pub mod PlainLists
 pub mod Ranges
+pub mod PlainParts

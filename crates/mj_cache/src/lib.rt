@@ -3,9 +3,11 @@
 
 mod cache;
 mod plain;
+mod plain_parts;
 mod ranges;
 mod refusal;
 
 pub use cache::Cache;
 pub use mj_index::Sums;
+pub use plain::plain_tree;
 pub use refusal::CacheRefusal;

@@ -18,13 +18,13 @@ ghost use Rattle.mj_judge.specs.Reached.{AreDirs};
 ghost use Rattle.mj_judge.specs.Rows.{count_in, full_in};
 ghost use Rattle.mj_cache.specs.PlainLists.{link_entry, link_of, record_kept};
 
+use crate::plain_parts::{plain_opens, plain_sessions, put_record};
 use mj_base::{Ino, InodeRecord, Items, RankNo};
 use mj_cells::{CellKey, CellView};
 use mj_judge::{
     Counts, full_in, ino_in, is_dir, kept_replies, link_counts, next_ino, open_counts, opens,
     reachable, sessions,
 };
-use mj_recovery::{plain_opens, plain_sessions, put_record};
 use mj_tables::Layers;
 use mj_tree::{PlainLink, PlainTree};
 use std::alloc::{AllocError, Global};

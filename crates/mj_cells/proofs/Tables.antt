@@ -74,7 +74,7 @@ value_of-no_cells (key.OpenOf c i) = ap presence_value (get_empty pair_cmp (c, i
 
 -- ---- a table is what it shows
 
-one_dentry : (a b : Option Dentry) → dentry_value a ≡ dentry_value b → a ≡ b
+pub one_dentry : (a b : Option Dentry) → dentry_value a ≡ dentry_value b → a ≡ b
 one_dentry None None e = refl
 one_dentry None (Some (Full v r)) e = absurd cc
 one_dentry None (Some (Remote v i k)) e = absurd cc
@@ -85,13 +85,13 @@ one_dentry (Some (Full v r)) (Some (Remote w j l)) e = absurd cc
 one_dentry (Some (Remote v i k)) (Some (Full w s)) e = absurd cc
 one_dentry (Some (Remote v i k)) (Some (Remote w j l)) e = cc
 
-one_number : (a b : Option ℕ) → number_value a ≡ number_value b → a ≡ b
+pub one_number : (a b : Option ℕ) → number_value a ≡ number_value b → a ≡ b
 one_number None None e = refl
 one_number None (Some n) e = absurd cc
 one_number (Some m) None e = absurd cc
 one_number (Some m) (Some n) e = cc
 
-one_presence : (a b : Option (Unit {0})) → presence_value a ≡ presence_value b → a ≡ b
+pub one_presence : (a b : Option (Unit {0})) → presence_value a ≡ presence_value b → a ≡ b
 one_presence None None e = refl
 one_presence None (Some n) e = absurd cc
 one_presence (Some m) None e = absurd cc

@@ -53,7 +53,7 @@ use Rattle.mj_recovery.specs.Orderly.{IsOfRank}
 use Rattle.mj_recovery.specs.Formatted.{formatted_objects}
 use Rattle.mj_recovery.proofs.Stores.{merged_look}
 use Rattle.mj_recovery.proofs.BadObjects.{table_is}
-use Rattle.mj_recovery.proofs.Finished.{second}
+use Rattle.mj_recovery.proofs.Bools.{second}
 use Rattle.mj_recovery.proofs.Formatting.{held, formatted_is}
 use Rattle.mj_delta.proofs.Facts.{held_cases}
 use Rattle.mj_delta.proofs.Lists.{lies_among}

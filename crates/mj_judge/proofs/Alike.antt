@@ -7,6 +7,7 @@ use Rattle.std.proofs.lemmas.Bool.{true≢false, eqb-true}
 use Rattle.mj_maps.proofs.MapLaws.{some_same, none_some}
 use Rattle.mj_recovery.specs.Tree.{is_among}
 use Rattle.mj_recovery.specs.Damage.{or_less, least, times}
+use Rattle.mj_recovery.proofs.Reaching.{or_right, or_cases}
 
 -- ---- lists in two goes
 
@@ -50,14 +51,6 @@ eq_sym a b = grind arith
 
 itself : (n : ℕ) → nat_eq n n ≡ true
 itself n = grind arith
-
-or_cases : (a b : Bool) → (a || b) ≡ true → (a ≡ true) ⊎ (b ≡ true)
-or_cases true b e = inl refl
-or_cases false b e = inr e
-
-or_right : (a b : Bool) → b ≡ true → (a || b) ≡ true
-or_right true b e = refl
-or_right false b e = e
 
 le_or_lt : (a b : ℕ) → (a ≤ b) ⊎ (b < a)
 le_or_lt a b = elim (nat_lt b a) as (λ c. nat_lt b a ≡ c → (a ≤ b) ⊎ (b < a)) [ true ↦ λ e. inr (grind (arith, e)) | false ↦ λ e. inl (grind (arith, e)) ] refl

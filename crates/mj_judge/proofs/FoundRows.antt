@@ -206,13 +206,13 @@ module _ (rank : ℕ) (m : Map key_cmp CellValue) (dirs : List ℕ) (is : AreDir
   counts_is = filter_map_twice (full_in (held rank dirs)) (if_other (link_times cs dirs)) cs ∙ ap (filter_map (if_other (link_times cs dirs))) records_are
       ∙ miscounted_by (link_times cs dirs) rs ∙ ap (λ (f : ℕ → ℕ). miscounted f rs) (λ j i. link_at i j)
 
-  dirs_is : all_dirs cs ≡ cell_dirs t
+  pub dirs_is : all_dirs cs ≡ cell_dirs t
   dirs_is = λ j. (filter_map_map dentry_entry (λ (e : Entry). e.0.0) cs ∙ ap (map (λ (e : Entry). e.0.0)) (sym (dentries_are m))) j
       ++ (filter_map_map head_entry (λ (e : ℕ × ℕ). e.0) cs ∙ ap (map (λ (e : ℕ × ℕ). e.0)) (sym (heads_are m))) j
 
-  beyond_is : beyond rank (next_of m) (fulls rank cs dirs) cs ≡ row.out_of_range rank (unwrap_or t.next 0) (inos rs) (cell_dirs t) es
-  beyond_is = λ j. let next = unwrap_or (sym (next_is m) j) 0 in
-      row.low_next rank next ++ filter (λ i. not (row.is_given rank next i)) (fulls_are j) ++ filter (λ d. not (row.is_known rank next d)) (dirs_is j)
+  beyond_is : (lumps : List ℕ) → beyond rank (next_of m) (fulls rank cs dirs) lumps cs ≡ row.out_of_range rank (unwrap_or t.next 0) (inos rs) lumps es
+  beyond_is lumps = λ j. let next = unwrap_or (sym (next_is m) j) 0 in
+      row.low_next rank next ++ filter (λ i. not (row.is_given rank next i)) (fulls_are j) ++ filter (λ d. not (row.is_known rank next d)) lumps
       ++ (filter_map_twice dentry_entry (row.misnamed rank) cs ∙ ap (filter_map (row.misnamed rank)) (sym (dentries_are m))) j
 
   opens_is : opens cs ≡ map (λ (o : (ℕ × ℕ) × Unit {0}). o.0) (entries t.opens)
@@ -274,43 +274,43 @@ module _ (rank : ℕ) (m : Map key_cmp CellValue) (dirs : List ℕ) (is : AreDir
   too_much_is d = λ j. first_some (over_are j ∷ over most_inodes (kept_are d j) ∷ over most_sessions (sessions_are_many j) ∷ over most_opens (opens_are_many j) ∷ [])
 
   -- the rows after that of two full dentries of an inode
-  abbrev found_rest : List (Option Damage)
-  found_rest =
+  abbrev found_rest : List ℕ → List (Option Damage)
+  found_rest lumps =
       option_map damage.NoPrimary (least (lone rank cs dirs))
       ∷ option_map damage.BadLinks (least (wrong_counts rank cs dirs))
-      ∷ option_map damage.BadNext (least (beyond rank (next_of m) (fulls rank cs dirs) cs))
+      ∷ option_map damage.BadNext (least (beyond rank (next_of m) (fulls rank cs dirs) lumps cs))
       ∷ first_open (wrong_opens rank m cs dirs)
       ∷ option_map damage.BadSession (least (wrong_replies m cs))
       ∷ option_map damage.OverLimit (too_much (link_times cs dirs) (fulls rank cs dirs) cs dirs)
       ∷ []
 
-  abbrev table_rest : List (Option Damage)
-  table_rest =
+  abbrev table_rest : List ℕ → List (Option Damage)
+  table_rest lumps =
       option_map damage.NoPrimary (least (filter_map (lone_remote (reachable t) rs) es))
       ∷ option_map damage.BadLinks (least (miscounted (link_count (tree_of rank t)) rs))
-      ∷ option_map damage.BadNext (least (row.out_of_range rank (unwrap_or t.next 0) (inos rs) (cell_dirs t) es))
+      ∷ option_map damage.BadNext (least (row.out_of_range rank (unwrap_or t.next 0) (inos rs) lumps es))
       ∷ first_open (bad_opens (get t.sessions) (is_file_of (tree_of rank t)) (map (λ (o : (ℕ × ℕ) × Unit {0}). o.0) (entries t.opens)))
       ∷ option_map damage.BadSession (least (bad_replies (get t.sessions) (entries t.done)))
       ∷ option_map damage.OverLimit (row.over_limit (tree_of rank t) (reachable t))
       ∷ []
 
-  rest_is : AreDistinct (inos rs) → found_rest ≡ table_rest
-  rest_is d = λ j.
+  rest_is : (lumps : List ℕ) → AreDistinct (inos rs) → found_rest lumps ≡ table_rest lumps
+  rest_is lumps d = λ j.
       option_map damage.NoPrimary (least (lone_is j))
       ∷ option_map damage.BadLinks (least (counts_is j))
-      ∷ option_map damage.BadNext (least (beyond_is j))
+      ∷ option_map damage.BadNext (least (beyond_is lumps j))
       ∷ first_open (bad_opens_are d j)
       ∷ option_map damage.BadSession (least (replies_is j))
       ∷ option_map damage.OverLimit (too_much_is d j)
       ∷ []
 
-  by_twice : (o : Option ℕ) (first : Option Damage) → least (twice (inos rs)) ≡ o → first_some (first ∷ option_map damage.TwoPrimaries o ∷ found_rest) ≡ first_some (first ∷ option_map damage.TwoPrimaries o ∷ table_rest)
-  by_twice None first none = ap (λ (os : List (Option Damage)). first_some (first ∷ None ∷ os)) (rest_is (distinct (inos rs) none))
-  by_twice (Some i) first some = after_some first (damage.TwoPrimaries i) found_rest table_rest
+  by_twice : (lumps : List ℕ) (o : Option ℕ) (first : Option Damage) → least (twice (inos rs)) ≡ o → first_some (first ∷ option_map damage.TwoPrimaries o ∷ found_rest lumps) ≡ first_some (first ∷ option_map damage.TwoPrimaries o ∷ table_rest lumps)
+  by_twice lumps None first none = ap (λ (os : List (Option Damage)). first_some (first ∷ None ∷ os)) (rest_is lumps (distinct (inos rs) none))
+  by_twice lumps (Some i) first some = after_some first (damage.TwoPrimaries i) (found_rest lumps) (table_rest lumps)
 
   -- the damage that is found is the table's
-  pub found_is : found_damage rank m cs dirs ≡ tree_damage rank t (cell_dirs t)
+  pub found_is : (lumps : List ℕ) → found_damage rank m cs dirs lumps ≡ tree_damage rank t lumps
   unfolding tree_damage
-  found_is =
-      (λ j. first_some (option_map damage.DirfragMissing (row_heads j) ∷ option_map damage.TwoPrimaries (least (twice (fulls_are j))) ∷ found_rest))
-      ∙ by_twice (least (twice (inos rs))) (option_map damage.DirfragMissing (least (headless (get t.heads) (holding rank t)))) refl
+  found_is lumps =
+      (λ j. first_some (option_map damage.DirfragMissing (row_heads j) ∷ option_map damage.TwoPrimaries (least (twice (fulls_are j))) ∷ found_rest lumps))
+      ∙ by_twice lumps (least (twice (inos rs))) (option_map damage.DirfragMissing (least (headless (get t.heads) (holding rank t)))) refl

@@ -4,3 +4,5 @@ pub mod Counted
 pub mod Alike
 pub mod Distinct
 pub mod FoundRows
+pub mod FirstSome
+pub mod Lesser

@@ -19,6 +19,7 @@ use Rattle.mj_cells.specs.Table.{Dentry, table_of, dentry_of, number_of, presenc
 use Rattle.mj_cells.specs.Table.Dentry.{Full, Remote}
 use Rattle.mj_cells.proofs.CellMaps.{not_below, value_of-table_of}
 use Rattle.mj_cells.proofs.Keys.{exact_key}
+use Rattle.mj_cells.proofs.Tables.{one_dentry, one_number, one_presence}
 use Rattle.mj_judge.specs.Parts.{Cell, pair_of, dentry_at, head_at, session_at, done_at, open_at, dentry_entry, head_entry, session_entry, done_entry, open_entry}
 
 -- one kind of keys
@@ -149,29 +150,6 @@ open_kind = record { exact = exact_pair; only = open_only; there = λ k. refl; o
 
 -- ---- what the table of cells has at each key
 
-same_dentry : (a b : Option Dentry) → dentry_value a ≡ dentry_value b → a ≡ b
-same_dentry None None e = refl
-same_dentry None (Some (Full v r)) e = absurd cc
-same_dentry None (Some (Remote v i k)) e = absurd cc
-same_dentry (Some (Full v r)) None e = absurd cc
-same_dentry (Some (Remote v i k)) None e = absurd cc
-same_dentry (Some (Full v r)) (Some (Full w s)) e = cc
-same_dentry (Some (Full v r)) (Some (Remote w j l)) e = absurd cc
-same_dentry (Some (Remote v i k)) (Some (Full w s)) e = absurd cc
-same_dentry (Some (Remote v i k)) (Some (Remote w j l)) e = cc
-
-same_number : (a b : Option ℕ) → number_value a ≡ number_value b → a ≡ b
-same_number None None e = refl
-same_number None (Some n) e = absurd cc
-same_number (Some m) None e = absurd cc
-same_number (Some m) (Some n) e = cc
-
-same_presence : (a b : Option (Unit {0})) → presence_value a ≡ presence_value b → a ≡ b
-same_presence None None e = refl
-same_presence None (Some y) e = absurd cc
-same_presence (Some x) None e = absurd cc
-same_presence (Some x) (Some y) e = refl
-
 by_dentry : (o : Option CellValue) → dentry_of (unwrap_or o Gone) ≡ option_and_then dentry_of o
 by_dentry None = refl
 by_dentry (Some v) = refl
@@ -186,22 +164,22 @@ by_presence (Some v) = refl
 
 module _ (m : Map key_cmp CellValue) where
   pub get-dentries : (q : ℕ × List ℕ) → get (table_of m).dentries q ≡ option_and_then dentry_of (get m (key.Dentry q.0 q.1))
-  get-dentries q = same_dentry _ _ (value_of-table_of m (key.Dentry q.0 q.1)) ∙ by_dentry (get m (key.Dentry q.0 q.1))
+  get-dentries q = one_dentry _ _ (value_of-table_of m (key.Dentry q.0 q.1)) ∙ by_dentry (get m (key.Dentry q.0 q.1))
 
   pub get-heads : (d : ℕ) → get (table_of m).heads d ≡ option_and_then number_of (get m (key.DirHead d))
-  get-heads d = same_number _ _ (value_of-table_of m (key.DirHead d)) ∙ by_number (get m (key.DirHead d))
+  get-heads d = one_number _ _ (value_of-table_of m (key.DirHead d)) ∙ by_number (get m (key.DirHead d))
 
   pub next_is : (table_of m).next ≡ option_and_then number_of (get m key.NextIno)
-  next_is = same_number _ _ (value_of-table_of m key.NextIno) ∙ by_number (get m key.NextIno)
+  next_is = one_number _ _ (value_of-table_of m key.NextIno) ∙ by_number (get m key.NextIno)
 
   pub get-sessions : (c : ℕ) → get (table_of m).sessions c ≡ option_and_then number_of (get m (key.Session c))
-  get-sessions c = same_number _ _ (value_of-table_of m (key.Session c)) ∙ by_number (get m (key.Session c))
+  get-sessions c = one_number _ _ (value_of-table_of m (key.Session c)) ∙ by_number (get m (key.Session c))
 
   pub get-done : (q : ℕ × ℕ) → get (table_of m).done q ≡ option_and_then number_of (get m (key.Done q.0 q.1))
-  get-done q = same_number _ _ (value_of-table_of m (key.Done q.0 q.1)) ∙ by_number (get m (key.Done q.0 q.1))
+  get-done q = one_number _ _ (value_of-table_of m (key.Done q.0 q.1)) ∙ by_number (get m (key.Done q.0 q.1))
 
   pub get-opens : (q : ℕ × ℕ) → get (table_of m).opens q ≡ option_and_then presence_of (get m (key.OpenOf q.0 q.1))
-  get-opens q = same_presence _ _ (value_of-table_of m (key.OpenOf q.0 q.1)) ∙ by_presence (get m (key.OpenOf q.0 q.1))
+  get-opens q = one_presence _ _ (value_of-table_of m (key.OpenOf q.0 q.1)) ∙ by_presence (get m (key.OpenOf q.0 q.1))
 
   pub dentries_are : entries (table_of m).dentries ≡ filter_map dentry_entry (entries m)
   dentries_are = part_is dentry_kind dentry_of m (table_of m).dentries get-dentries

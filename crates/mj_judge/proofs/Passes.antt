@@ -19,24 +19,12 @@ use Rattle.mj_cells.specs.Cell.{key_cmp}
 use Rattle.mj_cells.specs.Table.{Dentry, Table, table_of}
 use Rattle.mj_recovery.specs.Tree.{Entry, subdir, is_among, reachable, IsReachable}
 use Rattle.mj_recovery.specs.Tree.IsReachable.{at_root, below}
-use Rattle.mj_recovery.proofs.Reaching.{reached_sound, reached_complete}
+use Rattle.mj_recovery.proofs.Reaching.{or_right, or_cases, Lies, look, found_lies, reached_sound, reached_complete}
 use Rattle.mj_judge.specs.Parts.{Cell, dentry_entry}
 use Rattle.mj_judge.specs.Reached.{Edge, with_edge, unled, edge_to, edge_of, pass_dirs, pass_left, Leads, AreReached, AreDirs}
 use Rattle.mj_judge.proofs.PartMaps.{dentries_are}
 
 -- ---- a set's keys
-
-cases : (a : Bool) → (a ≡ true) ⊎ (a ≡ false)
-cases true = inl refl
-cases false = inr refl
-
-or_right : (a b : Bool) → b ≡ true → (a || b) ≡ true
-or_right true b e = refl
-or_right false b e = e
-
-or_cases : (a b : Bool) → (a || b) ≡ true → (a ≡ true) ⊎ (b ≡ true)
-or_cases true b e = inl refl
-or_cases false b e = inr e
 
 swap_or : (a b c : Bool) → (a || (b || c)) ≡ (b || (a || c))
 swap_or true true c = refl
@@ -184,10 +172,6 @@ edges_are (c ∷ cs) = elim (dentry_entry c) as (λ o. cons_option (option_and_t
   | Some e ↦ ap (cons_option (edge_to e)) (edges_are cs)
 ]
 
-abbrev Lies : Entry → List Entry → Type 0
-Lies e [] = ⊥
-Lies e (x ∷ xs) = (x ≡ e) ⊎ Lies e xs
-
 -- an edge comes from a dentry of the list
 pub record ByEntry (es : List Entry) (x : Edge) : Type 0 where
   pub at : Entry
@@ -219,32 +203,6 @@ leads : (es : List Entry) (e : Entry) (i : ℕ) → Lies e es → subdir e.1 ≡
 leads [] e i l is = absurd l
 leads (y ∷ es) e i (inl same) is = subst (λ (z : Entry). Leads (z.0.0, i) (filter_map edge_to (y ∷ es))) same (cons_here (subdir y.1) y.0.0 i (filter_map edge_to es) (ap (λ (z : Entry). subdir z.1) same ∙ is))
 leads (y ∷ es) e i (inr l) is = cons_later (edge_to y) (filter_map edge_to es) (e.0.0, i) (leads es e i l is)
-
--- ---- entries and look-ups
-
-below_at : (k : ℕ × List ℕ) (es : List Entry) (e : Entry) → T (below_all place_cmp k es) → Lies e es → T (is_lt (place_cmp k e.0))
-below_at k [] e h l = absurd l
-below_at k (x ∷ es) e h (inl same) = subst (λ (y : Entry). T (is_lt (place_cmp k y.0))) same (left_true _ _ h)
-below_at k (x ∷ es) e h (inr l) = below_at k es e (right_true _ _ h) l
-
-other : (x e : Entry) → T (is_lt (place_cmp x.0 e.0)) → eq_by_cmp place_cmp e.0 x.0 ≡ false
-other x e lt = elim (cases_key exact_place e.0 x.0) [
-  | inl same ↦ absurd (subst (λ o. T (is_lt o)) (tied_itself exact_place.total x.0) (subst (λ k. T (is_lt (place_cmp x.0 k))) same lt))
-  | inr apart ↦ apart
-]
-
-look : (es : List Entry) → T (is_sorted place_cmp es) → (e : Entry) → Lies e es → find place_cmp e.0 es ≡ Some e.1
-look [] s e l = absurd l
-look (x ∷ es) s e (inl same) =
-    ap (λ b. cond b (Some x.1) (find place_cmp e.0 es)) (ap (λ (y : Entry). eq_by_cmp place_cmp e.0 y.0) same ∙ eq_same exact_place e.0) ∙ ap (λ (y : Entry). Some y.1) same
-look (x ∷ es) s e (inr l) = ap (λ b. cond b (Some x.1) (find place_cmp e.0 es)) (other x e (below_at x.0 es e (left_true _ _ s) l)) ∙ look es (right_true _ _ s) e l
-
-found_lies : (es : List Entry) (q : ℕ × List ℕ) (v : Dentry) → find place_cmp q es ≡ Some v → Lies (q, v) es
-found_lies [] q v h = absurd (none_some v h)
-found_lies (x ∷ es) q v h = elim (eq_by_cmp place_cmp q x.0) as (λ b. eq_by_cmp place_cmp q x.0 ≡ b → cond b (Some x.1) (find place_cmp q es) ≡ Some v → Lies (q, v) (x ∷ es)) [
-  | true ↦ λ e f. let key : x.0 ≡ q = sym (eq_true exact_place q x.0 e) in let value : x.1 ≡ v = some_same x.1 v f in inl (λ i. (key i, value i))
-  | false ↦ λ e f. inr (found_lies es q v f)
-] refl h
 
 -- ---- both ways
 

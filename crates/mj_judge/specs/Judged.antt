@@ -1,4 +1,4 @@
--- The rows of damage of cells, where these are the reachable directories, by look-ups and counts.
+-- The rows of damage of cells, where these are the reachable directories and those of live lumps, by look-ups and counts.
 use Rattle.std.specs.Prelude.{ℕ, Bool, nat_lt, not, List, [], ◌∷◌, ◌++◌, length, map, filter, filter_map, Option, option_map, unwrap_or}
 use Rattle.mj_maps.specs.Map.{Map}
 use Rattle.mj_base.specs.ObjectName.{stray_ino}
@@ -60,12 +60,12 @@ wrong_counts rank cs dirs = filter_map (miscounted_ino (held rank dirs) (link_ti
 abbrev pub all_dirs : List Cell → List ℕ
 all_dirs cs = filter_map dentry_dir cs ++ filter_map head_dir cs
 
--- what shows that the next inode is too low, where these are the inodes of full dentries
-abbrev pub beyond : ℕ → ℕ → List ℕ → List Cell → List ℕ
-beyond rank next is cs =
+-- what shows that the next inode is too low, where these are the inodes of full dentries and the directories of live lumps
+abbrev pub beyond : ℕ → ℕ → List ℕ → List ℕ → List Cell → List ℕ
+beyond rank next is lumps cs =
     low_next rank next
     ++ filter (λ i. not (is_given rank next i)) is
-    ++ filter (λ d. not (is_known rank next d)) (all_dirs cs)
+    ++ filter (λ d. not (is_known rank next d)) lumps
     ++ filter_map (misnamed_ino rank) cs
 
 abbrev pub next_of : Map key_cmp CellValue → ℕ
@@ -85,13 +85,13 @@ kept_inodes rank cs dirs = kept_of (link_times cs dirs) (open_times cs) (fulls r
 abbrev pub too_much : (ℕ → ℕ) → List ℕ → List Cell → List ℕ → Option ℕ
 too_much links is cs dirs = first_some (over_entries (entry_times cs dirs) dirs ∷ over most_inodes (length (kept_of links (open_times cs) is)) ∷ over most_sessions (length (filter_map session_entry cs)) ∷ over most_opens (length (opens cs)) ∷ [])
 
-abbrev pub found_damage : ℕ → Map key_cmp CellValue → List Cell → List ℕ → Option Damage
-found_damage rank m cs dirs = first_some (
+abbrev pub found_damage : ℕ → Map key_cmp CellValue → List Cell → List ℕ → List ℕ → Option Damage
+found_damage rank m cs dirs lumps = first_some (
     option_map damage.DirfragMissing (least (headless (version_at m) (held rank dirs)))
     ∷ option_map damage.TwoPrimaries (least (twice (fulls rank cs dirs)))
     ∷ option_map damage.NoPrimary (least (lone rank cs dirs))
     ∷ option_map damage.BadLinks (least (wrong_counts rank cs dirs))
-    ∷ option_map damage.BadNext (least (beyond rank (next_of m) (fulls rank cs dirs) cs))
+    ∷ option_map damage.BadNext (least (beyond rank (next_of m) (fulls rank cs dirs) lumps cs))
     ∷ first_open (wrong_opens rank m cs dirs)
     ∷ option_map damage.BadSession (least (wrong_replies m cs))
     ∷ option_map damage.OverLimit (too_much (link_times cs dirs) (fulls rank cs dirs) cs dirs)

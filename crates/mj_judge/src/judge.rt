@@ -7,12 +7,15 @@ ghost use Rattle.mj_cells.specs.Next.{cell_of};
 ghost use Rattle.mj_tables.specs.Layered.{early_cells};
 ghost use Rattle.mj_recovery.specs.Damage.{least, twice, headless, first_open, over, over_entries};
 ghost use Rattle.mj_judge.specs.Rows.{count_in, version_at, kept_of};
-ghost use Rattle.mj_judge.specs.Judged.{held, lone, wrong_counts, all_dirs, beyond, next_of, wrong_opens, wrong_replies, too_much, kept_inodes, found_damage, opens, entry_times, link_times, place_times, open_times};
+ghost use Rattle.mj_judge.specs.Judged.{held, lone, wrong_counts, beyond, next_of, wrong_opens, wrong_replies, too_much, kept_inodes, found_damage, opens, entry_times, link_times, place_times, open_times};
 
 use crate::counts::Counts;
-use crate::dentries::{dentry_dirs, full_inodes, kind_inodes, link_dirs, link_inodes, remotes};
+use crate::dentries::{full_inodes, kind_inodes, link_dirs, link_inodes, remotes};
 use crate::kinds::kinds_of;
-use crate::parts::{head_dirs, kept_replies, next_ino, opens, sessions};
+use crate::lowest::{least, least_client};
+use crate::opened::{first_open, opened_inodes};
+use crate::parts::{kept_replies, next_ino, opens, sessions};
+use crate::range::{push_low, push_not_given, push_unknown};
 use crate::rows::{
     bad_opens, bad_replies, headless, kept_of, lone_among, miscounted, over_dirs, reply_clients,
     twice,
@@ -20,9 +23,6 @@ use crate::rows::{
 use crate::stray::push_misnamed;
 use mj_base::{ClientId, Damage, Ino, Kind, RankNo};
 use mj_cells::CellView;
-use mj_recovery::{
-    first_open, least, least_client, opened_inodes, push_low, push_not_given, push_unknown,
-};
 use mj_tables::Layers;
 use std::alloc::{AllocError, Global};
 use std::collections::BTreeSet;
@@ -127,30 +127,20 @@ fn bad_links(
     }
 }
 
-// The directories that have a cell.
-fn cell_dirs(alloc: Global, cells: &[CellView<'_>]) -> Result<Vec<Ino>, AllocError>
-    ensures { IfOk result (λ v. v.items ≡ all_dirs (map cell_of cells.now)) }
-{
-    let mut all = dentry_dirs(alloc, cells)?;
-    let heads = head_dirs(alloc, cells)?;
-    all.extend_from_slice(&heads)?;
-    Ok(all)
-}
-
 fn beyond(
     alloc: Global,
     rank: RankNo,
     next: Ino,
     inodes: &[Ino],
+    lump_dirs: &[Ino],
     cells: &[CellView<'_>],
 ) -> Result<Vec<Ino>, AllocError>
-    ensures { IfOk result (λ v. v.items ≡ beyond rank next inodes.now (map cell_of cells.now)) }
+    ensures { IfOk result (λ v. v.items ≡ beyond rank next inodes.now lump_dirs.now (map cell_of cells.now)) }
 {
-    let all = cell_dirs(alloc, cells)?;
     let mut found = Vec::new(alloc);
     push_low(&mut found, rank, next)?;
     push_not_given(&mut found, rank, next, inodes)?;
-    push_unknown(&mut found, rank, next, &all)?;
+    push_unknown(&mut found, rank, next, lump_dirs)?;
     push_misnamed(alloc, &mut found, rank, cells)?;
     Ok(found)
 }
@@ -160,12 +150,13 @@ fn bad_next(
     rank: RankNo,
     layers: &Layers,
     inodes: &[Ino],
+    lump_dirs: &[Ino],
     cells: &[CellView<'_>],
 ) -> Result<Option<Damage>, AllocError>
-    ensures { IfOk result (λ o. o ≡ option_map damage.BadNext (least (beyond rank (next_of (early_cells layers.now)) inodes.now (map cell_of cells.now)))) }
+    ensures { IfOk result (λ o. o ≡ option_map damage.BadNext (least (beyond rank (next_of (early_cells layers.now)) inodes.now lump_dirs.now (map cell_of cells.now)))) }
 {
     let next = next_ino(layers).unwrap_or(Ino(0));
-    let found = beyond(alloc, rank, next, inodes, cells)?;
+    let found = beyond(alloc, rank, next, inodes, lump_dirs, cells)?;
     match least(&found) {
         Some(ino) => Ok(Some(Damage::BadNext(ino))),
         None => Ok(None),
@@ -368,16 +359,18 @@ fn over_limit(
     }
 }
 
-/// The first damage of these cells, all of which `layers` has, where the directories are the reachable ones.
-#[tactic(auto, using(mj_recovery::proofs::Judged::first_hits, mj_recovery::proofs::Judged::first_skips))]
+/// The first damage of these cells, all of which `layers` has, where the first directories are the reachable ones, and the
+/// last those of live lumps.
+#[tactic(auto, using(crate::proofs::FirstSome::first_hits, crate::proofs::FirstSome::first_skips))]
 pub fn found_damage(
     alloc: Global,
     rank: RankNo,
     layers: &Layers,
     dirs: &BTreeSet<Ino>,
+    lump_dirs: &[Ino],
     cells: &[CellView<'_>],
 ) -> Result<Option<Damage>, AllocError>
-    ensures { IfOk result (λ o. o ≡ found_damage rank (early_cells layers.now) (map cell_of cells.now) dirs.now.keys) }
+    ensures { IfOk result (λ o. o ≡ found_damage rank (early_cells layers.now) (map cell_of cells.now) dirs.now.keys lump_dirs.now) }
 {
     if let Some(damage) = missing_head(alloc, rank, layers, dirs)? {
         return Ok(Some(damage));
@@ -393,7 +386,7 @@ pub fn found_damage(
     if let Some(damage) = bad_links(alloc, rank, dirs, &links, cells)? {
         return Ok(Some(damage));
     }
-    if let Some(damage) = bad_next(alloc, rank, layers, &inodes, cells)? {
+    if let Some(damage) = bad_next(alloc, rank, layers, &inodes, lump_dirs, cells)? {
         return Ok(Some(damage));
     }
     let places = opens(alloc, cells)?;

@@ -20,7 +20,7 @@ use Rattle.mj_recovery.specs.Stored.{head_cell, bad_pair, bad_key}
 use Rattle.mj_recovery.specs.Damage.{least, head_written, lump_dirs}
 use Rattle.mj_recovery.specs.Recovered.{is_bad, lacks_head, bad_table, bad_key_of, bad_dirfrag}
 use Rattle.mj_recovery.specs.ListedObjects.{inotable_bad, sessionmap_bad, listed_bad_table, listed_bad_key, listed_bad_dirfrag}
-use Rattle.mj_recovery.proofs.Finished.{from_true, first, second}
+use Rattle.mj_recovery.proofs.Bools.{from_true, first, second}
 use Rattle.mj_recovery.proofs.Stores.{exact_name, name_ties, image_is}
 
 abbrev HasOrder : HeldObject → Bool

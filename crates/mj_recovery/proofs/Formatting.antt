@@ -45,7 +45,7 @@ use Rattle.mj_recovery.specs.Orderly.{HasHighInode, HasNoZeroHead, IsOrderly, Ha
 use Rattle.mj_recovery.specs.Formatted.{keyless, formatted_header, formatted_objects, formatted_recovery}
 use Rattle.mj_recovery.proofs.Probing.{stream_ends}
 use Rattle.mj_recovery.proofs.Steps.{journal_ok}
-use Rattle.mj_recovery.proofs.Finished.{second}
+use Rattle.mj_recovery.proofs.Bools.{second}
 use Rattle.mj_recovery.proofs.BadObjects.{table_is, dirfrag_is}
 use Rattle.mj_recovery.proofs.Stores.{exact_name, name_ties, stored_is, image_is}
 use Rattle.mj_recovery.proofs.Wholly.{recovered_ok}

@@ -1,19 +1,11 @@
 pub mod Merges
-pub mod Finished
-pub mod Blank
-pub mod Replies
-mod PlainReplies
-pub mod Planted
+pub mod Bools
 pub mod Probing
 pub mod Steps
-pub mod Hex
 pub mod BadObjects
 pub mod Gathered
 pub mod Stores
 pub mod Wholly
 pub mod Lawful
-pub mod Judged
-pub mod Lesser
-pub mod Names
 pub mod Formatting
 pub mod Reaching

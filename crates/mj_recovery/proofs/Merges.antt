@@ -36,11 +36,3 @@ module _ {K X Y : Type 0} {R : K → K → Ordering} (o : Exact R) (f : K → X 
 
   pub collect_put : (es fs : List (K × X)) (k : K) (v : X) (y : Option Y) → fs ≡ insert_entry R es k v → f k v ≡ y → collect f (from_entries {R = R} fs) ≡ with_at (collect f (from_entries es)) k y
   collect_put es fs k v y is gives = ap (λ xs. collect f (from_entries xs)) (is ∙ insert_put R es k v) ∙ ap (collect f) (from_entries-put o k v es) ∙ written (from_entries es) k v y gives
-
-  entries-collect : (m : Map R X) → entries (collect f m) ≡ picked f (entries m)
-  unfolding entries collect
-  entries-collect m = refl
-
-  -- what a sorted list of entries leaves
-  pub from_picked : (es : List (K × X)) → T (list.is_sorted R es) → from_entries {R = R} (picked f es) ≡ collect f (from_entries es)
-  from_picked es h = ap from_entries (sym (ap (picked f) (entries-from_entries o es h)) ∙ sym (entries-collect (from_entries es))) ∙ from_entries-entries o (collect f (from_entries es))

@@ -21,11 +21,11 @@ or_left : (a b : Bool) → a ≡ true → (a || b) ≡ true
 or_left true b e = refl
 or_left false b e = absurd cc
 
-or_right : (a b : Bool) → b ≡ true → (a || b) ≡ true
+pub or_right : (a b : Bool) → b ≡ true → (a || b) ≡ true
 or_right true b e = refl
 or_right false b e = e
 
-or_cases : (a b : Bool) → (a || b) ≡ true → (a ≡ true) ⊎ (b ≡ true)
+pub or_cases : (a b : Bool) → (a || b) ≡ true → (a ≡ true) ⊎ (b ≡ true)
 or_cases true b e = inl refl
 or_cases false b e = inr e
 
@@ -89,7 +89,7 @@ settled dirs (n ∷ ds) h = elim (is_among dirs n) as (λ b. (b && list_all (is_
 
 -- ---- the directories below
 
-abbrev Lies : Entry → List Entry → Type 0
+abbrev pub Lies : Entry → List Entry → Type 0
 Lies e [] = ⊥
 Lies e (x ∷ xs) = (x ≡ e) ⊎ Lies e xs
 
@@ -238,13 +238,13 @@ other x e lt = elim (cases_key exact_place e.0 x.0) [
   | inr apart ↦ apart
 ]
 
-look : (es : List Entry) → T (is_sorted place_cmp es) → (e : Entry) → Lies e es → find place_cmp e.0 es ≡ Some e.1
+pub look : (es : List Entry) → T (is_sorted place_cmp es) → (e : Entry) → Lies e es → find place_cmp e.0 es ≡ Some e.1
 look [] s e l = absurd l
 look (x ∷ es) s e (inl same) =
     ap (λ b. cond b (Some x.1) (find place_cmp e.0 es)) (ap (λ (y : Entry). eq_by_cmp place_cmp e.0 y.0) same ∙ eq_same exact_place e.0) ∙ ap (λ (y : Entry). Some y.1) same
 look (x ∷ es) s e (inr l) = ap (λ b. cond b (Some x.1) (find place_cmp e.0 es)) (other x e (below_at x.0 es e (left_true _ _ s) l)) ∙ look es (right_true _ _ s) e l
 
-found_lies : (es : List Entry) (q : ℕ × List ℕ) (v : Dentry) → find place_cmp q es ≡ Some v → Lies (q, v) es
+pub found_lies : (es : List Entry) (q : ℕ × List ℕ) (v : Dentry) → find place_cmp q es ≡ Some v → Lies (q, v) es
 found_lies [] q v h = absurd (none_some v h)
 found_lies (x ∷ es) q v h = elim (eq_by_cmp place_cmp q x.0) as (λ b. eq_by_cmp place_cmp q x.0 ≡ b → cond b (Some x.1) (find place_cmp q es) ≡ Some v → Lies (q, v) (x ∷ es)) [
   | true ↦ λ e f. let key : x.0 ≡ q = sym (eq_true exact_place q x.0 e) in let value : x.1 ≡ v = some_same x.1 v f in inl (λ i. (key i, value i))

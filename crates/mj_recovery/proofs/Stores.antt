@@ -34,7 +34,7 @@ use Rattle.mj_recovery.specs.Listed.{found, image_of, listed_cells, all_listed}
 use Rattle.mj_recovery.specs.Journal.{journal_writes}
 use Rattle.mj_recovery.specs.Stored.{object_of, name_in, dentry_in, number_in, hex_number, reply_in, session_in, cell, pair_cell, head_cell, head_cells, object_cells, among, stored_cell}
 use Rattle.mj_recovery.specs.Recovered.{is_of_rank, rank_cells, stored_table, merged_table}
-use Rattle.mj_recovery.proofs.Finished.{from_true, first, second}
+use Rattle.mj_recovery.proofs.Bools.{from_true, first, second}
 
 -- ---- the order of names
 

@@ -1,6 +1,5 @@
 pub mod Objects
 pub mod Listed
-pub mod Gives
 pub mod Stream
 pub mod Journal
 pub mod Stored
@@ -8,9 +7,5 @@ pub mod Tree
 pub mod Damage
 pub mod Recovered
 pub mod Orderly
-pub mod Sorted
-pub mod Held
-pub mod View
-pub mod ListedDamage
 pub mod ListedObjects
 pub mod Formatted

@@ -1,7 +1,8 @@
 //! Images of worked runs: what they recover to, and the damage of changed ones.
 
-use mj_recovery::{RecoverRefusal, are_held, recovered};
+use crate::{are_held, recovered};
 use mj_base::{Damage, Items, ObjectName, RankNo};
+use mj_replay::JournalRefusal;
 use mj_store::{HeldObject, Pair};
 use std::alloc::{AllocError, Global};
 use std::process::Abort;
@@ -352,8 +353,8 @@ fn fault_of(rt: &impl Abort, alloc: Global, objects: &[HeldObject]) -> Result<Op
     assert!(rt; are_held(objects));
     match recovered(alloc, objects, rank_0()?) {
         Ok(_) => Ok(None),
-        Err(RecoverRefusal::Damage(damage)) => Ok(Some(told(&damage))),
-        Err(RecoverRefusal::Memory) => Err(Fail::from("no memory")),
+        Err(JournalRefusal::Damage(damage)) => Ok(Some(told(&damage))),
+        Err(_) => Err(Fail::from("no memory")),
     }
 }
 

@@ -1,5 +1,16 @@
-//! Tests of `mj_recovery`.
+//! A plain program of recovery over a list of objects, by the definitions of `mj_recovery`, and its tests on images of worked runs.
 #![tactic(auto)]
+
+mod bad;
+mod journal;
+mod objects;
+mod put;
+mod recover;
+mod stored;
+mod stream;
 
 #[cfg(test)]
 mod images;
+
+pub use objects::are_held;
+pub use recover::{Recovery, recovered};

@@ -20,7 +20,7 @@ use Rattle.mj_recovery.specs.Objects.{Objects, content_of, objects_of}
 use Rattle.mj_recovery.specs.Recovered.{stored_table, bad_table, bad_dirfrag, bad_key_of}
 use Rattle.mj_recovery.specs.Stored.{bad_key}
 use Rattle.mj_recovery.proofs.BadObjects.{table_is}
-use Rattle.mj_recovery.proofs.Finished.{second}
+use Rattle.mj_recovery.proofs.Bools.{second}
 use Rattle.mj_recovery.proofs.Formatting.{held}
 use Rattle.mj_recovery.proofs.Stores.{image_is}
 use Rattle.mj_delta.specs.Fresh.{fresh_table}

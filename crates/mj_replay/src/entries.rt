@@ -4,7 +4,7 @@ ghost use Rattle.std.specs.Prelude.{◌≡◌, ◌-◌, ◌≤◌, ◌<◌, ◌^
 ghost use Rattle.mj_store.specs.State.{StoreState, contents};
 ghost use Rattle.mj_store.specs.Moves.{Still};
 ghost use Rattle.mj_probe.specs.Looks.{Looks};
-ghost use Rattle.mj_recovery.specs.Journal.{beginning, live_entries};
+ghost use Rattle.mj_recovery.specs.Journal.{beginning, is_beginning, live_entries};
 ghost use Rattle.mj_recovery.specs.Stream.{stream, stream_of, probed_end};
 ghost use Rattle.mj_replay.specs.Pieces.{entries_from, InGrammar};
 ghost use Rattle.mj_replay.specs.Replays.{Gives, RefusesJournal, IsNoDamage};
@@ -14,7 +14,8 @@ use crate::refusal::JournalRefusal;
 use mj_base::{Damage, Items, RankNo};
 use mj_layout::{Header, Layout};
 use mj_probe::{RangeRefusal, probe_end, read_range};
-use mj_recovery::{Entries, is_beginning};
+use mj_event::Event;
+use mj_recovery::Entries;
 use mj_store::ObjectStore;
 use std::alloc::Global;
 
@@ -100,8 +101,18 @@ fn read_entries<S: ObjectStore>(
     })
 }
 
-// The first event has to be a subtree map or a reset.
-fn judge_first(found: Entries) -> Result<Entries, JournalRefusal>
+// Whether a journal may begin with this event: a subtree map or a reset.
+fn is_beginning(event: &Event) -> bool
+    ensures { result ≡ is_beginning event.now }
+{
+    match event {
+        Event::SubtreeMap(_) | Event::Reset => true,
+        _ => false,
+    }
+}
+
+/// The first event has to be a subtree map or a reset.
+pub fn judge_first(found: Entries) -> Result<Entries, JournalRefusal>
     ensures told { Gives result (beginning found) }
     ensures same { IfOk result (λ entries. entries ≡ found) }
     ensures cause { (before now : ℕ) → IfErr result (RefusesJournal before now) }

@@ -12,7 +12,9 @@ mod piece;
 mod refusal;
 mod replaying;
 
+pub use entries::judge_first;
 pub use journal::read_journal;
 pub use laws::a_history_is_replayed;
+pub use piece::{Piece, read_piece};
 pub use refusal::JournalRefusal;
 pub use replaying::{Replayed, replay};

@@ -1,9 +1,7 @@
 //! The cells of a formatted store with the writes of a journal's events over them.
 
 ghost use Rattle.std.specs.Prelude.{◌≡◌, ◌&&◌, ℕ, unwrap_or, IfOk, OnOk};
-ghost use Rattle.std.specs.List.{AllByRecursion};
-ghost use Rattle.mj_cells.specs.Cell.{WriteFits};
-ghost use Rattle.mj_cells.specs.Table.{table_of, overlay, put_all, number_of};
+ghost use Rattle.mj_cells.specs.Table.{table_of, overlay, number_of};
 ghost use Rattle.mj_event.specs.Event.{IsEvent};
 ghost use Rattle.mj_event.specs.Writes.{writes_of};
 ghost use Rattle.mj_recovery.specs.Journal.{journal_writes};
@@ -13,7 +11,7 @@ ghost use Rattle.mj_replay.specs.Pieces.{InGrammar};
 
 use crate::lumps::LumpDirs;
 use mj_base::{Ino, RankNo};
-use mj_cells::{CellKey, CellValue, CellWrite};
+use mj_cells::{CellKey, CellValue};
 use mj_event::{Event, writes};
 use mj_fresh::new_cells;
 use mj_recovery::LiveEvent;
@@ -36,17 +34,6 @@ fn number_in(value: &CellValue) -> u64
     }
 }
 
-// Writes cells in order. After an error those before it are written.
-fn write_all(cells: &mut SafeCells, ws: Vec<CellWrite>) -> Result<(), AllocError>
-    requires { AllByRecursion WriteFits ws.items }
-    ensures { OnOk result (cells.new ≡ put_all cells.old ws.items) }
-{
-    for w in ws {
-        cells.put(w)?;
-    }
-    Ok(())
-}
-
 impl Overlaid {
     // Writes the cells of an event.
     fn put_event(&mut self, alloc: Global, rank: RankNo, event: &Event) -> Result<(), AllocError>
@@ -56,7 +43,7 @@ impl Overlaid {
     {
         let ws = writes(alloc, event)?;
         self.lumps.add_writes(rank, &ws);
-        write_all(&mut self.cells, ws)?;
+        self.cells.put_all(ws)?;
         Ok(())
     }
 

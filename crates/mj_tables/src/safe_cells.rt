@@ -1,9 +1,11 @@
 //! Cells that are all safe, before layers begin over them.
 
 ghost use Rattle.std.specs.Prelude.{◌≡◌, [], IfOk, OnOk, OnErr};
+ghost use Rattle.std.specs.List.{AllByRecursion};
 ghost use Rattle.std.specs.Option.{option_copied};
 ghost use Rattle.mj_maps.specs.Map.{get, insert};
 ghost use Rattle.mj_cells.specs.Cell.{WriteFits, AllFit};
+ghost use Rattle.mj_cells.specs.Table.{put_all};
 ghost use Rattle.mj_tables.specs.Slots.{slots_of, safe_cells, AreLaid};
 
 use crate::moving::slots_from;
@@ -82,6 +84,17 @@ impl SafeCells {
             ahead: None,
         };
         self.slots.insert(w.key, slot)?;
+        Ok(())
+    }
+
+    /// Writes cells in order. After an error those before it are written.
+    pub fn put_all(&mut self, ws: Vec<CellWrite>) -> Result<(), AllocError>
+        requires { AllByRecursion WriteFits ws.items }
+        ensures { OnOk result (self.new ≡ put_all self.old ws.items) }
+    {
+        for w in ws {
+            self.put(w)?;
+        }
         Ok(())
     }
 

@@ -5,7 +5,7 @@ use Rattle.mj_maps.proofs.MapLaws.{exact_nat, exact_place, exact_pair}
 use Rattle.mj_tree.specs.Lists.{record_entries, link_entries, open_entries, session_entries}
 use Rattle.mj_tables.specs.Layered.{early_cells}
 use Rattle.mj_cells.specs.Table.{table_of}
-use Rattle.mj_recovery.specs.Sorted.{with_unit}
+use Rattle.mj_cache.specs.PlainParts.{with_unit}
 use Rattle.mj_recovery.specs.Tree.{tree_of, bare_tree, session_in}
 use Rattle.mj_judge.specs.Parts.{Cell, session_entry, done_entry, open_place}
 use Rattle.mj_judge.proofs.PartMaps.{next_is}

@@ -1,7 +1,0 @@
-use Rattle.std.proofs.Common.{◌≡◌, drop}
-use Rattle.mj_recovery.specs.Damage.{least}
-use Rattle.mj_recovery.proofs.Lesser.{lesser}
-use Rattle.mj_recovery.proofs.lowest.least_client.Given as goal
-
-abbrev pub invariant-loop-n : goal.invariant-loop-n
-invariant-loop-n l = lesser l.found (least (drop l.n-index l.clients)) ≡ least l.clients

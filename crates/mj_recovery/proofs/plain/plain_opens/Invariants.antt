@@ -1,7 +1,0 @@
-use Rattle.std.proofs.Common.{◌≡◌, ◌++◌, drop, map}
-use Rattle.mj_tree.specs.Lists.{open_entries}
-use Rattle.mj_recovery.specs.Sorted.{with_unit}
-use Rattle.mj_recovery.proofs.plain.plain_opens.Given as goal
-
-abbrev pub invariant-loop-place : goal.invariant-loop-place
-invariant-loop-place l = open_entries l.found.items ++ map with_unit (drop l.place-index l.places) ≡ map with_unit l.places

@@ -1,0 +1,4 @@
+pub mod Gives
+pub mod View
+pub mod Places
+pub mod Values
