@@ -10,9 +10,9 @@ use Rattle.mj_rank.proofs.FormattedRests.{formatted_rested}
 use Rattle.mj_world.specs.Live.{WorldLives}
 use Rattle.mj_world.specs.declared.world.World.{World}
 use Rattle.mj_layout.specs.Striping.{Striping}
-use Rattle.mj_lines.specs.Text.{turn_text}
-use Rattle.mj_lines.specs.declared.line.Line.{Line}
-use Rattle.mj_lines.specs.declared.answer.Answer.{Answer}
+use Rattle.mj_texts.specs.AnswerText.{turn_text}
+use Rattle.mj_texts.specs.declared.line.Line.{Line}
+use Rattle.mj_texts.specs.declared.answer.Answer.{Answer}
 use Rattle.mj_app.specs.declared.status.Status.{Status}
 use Rattle.mj_app.specs.declared.status.Status.TheVariants as status
 use Rattle.mj_app.specs.Status.{code_of}

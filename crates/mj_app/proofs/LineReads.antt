@@ -11,23 +11,23 @@ use Rattle.mj_machine.specs.Said.{Said, Word, is_answer}
 use Rattle.mj_machine.specs.Said.{Said as said}
 use Rattle.mj_machine.specs.Said.Word.{Stopped, AlreadyMounted}
 use Rattle.mj_rank.specs.Live.{after_early, after_reap}
-use Rattle.mj_rank.specs.declared.answers.Early.{Early}
-use Rattle.mj_rank.specs.declared.answers.Reaped.TheVariants as reaped
+use Rattle.mj_texts.specs.declared.steps.Early.{Early}
+use Rattle.mj_texts.specs.declared.steps.Reaped.TheVariants as reaped
 use Rattle.mj_rank.specs.declared.refusal.RankRefusal.TheVariants as rank_refusal
 use Rattle.mj_rank.specs.declared.refusal.MountRefusal.TheVariants as mount_refusal
-use Rattle.mj_world.specs.declared.answers.Said as world
-use Rattle.mj_world.specs.declared.answers.Said.TheVariants as world_said
-use Rattle.mj_world.specs.declared.answers.Step.{Step}
-use Rattle.mj_world.specs.declared.answers.Step.TheVariants as step
-use Rattle.mj_world.specs.declared.answers.WorldRefusal.{WorldRefusal}
-use Rattle.mj_world.specs.declared.answers.WorldRefusal.TheVariants as refusal
+use Rattle.mj_texts.specs.declared.steps.Said as world
+use Rattle.mj_texts.specs.declared.steps.Said.TheVariants as world_said
+use Rattle.mj_texts.specs.declared.steps.Step.{Step}
+use Rattle.mj_texts.specs.declared.steps.Step.TheVariants as step
+use Rattle.mj_world.specs.declared.refusal.WorldRefusal.{WorldRefusal}
+use Rattle.mj_world.specs.declared.refusal.WorldRefusal.TheVariants as refusal
 use Rattle.mj_world.specs.Live.{machine_after, Replies}
 use Rattle.mj_world.specs.Phases.{IsOfPhase}
 use Rattle.mj_world.specs.Steps.{IsAnswerTo}
-use Rattle.mj_lines.specs.declared.line.Line.{Line}
-use Rattle.mj_lines.specs.declared.line.Line.TheVariants as line
-use Rattle.mj_lines.specs.declared.answer.Answer.{Answer}
-use Rattle.mj_lines.specs.declared.answer.Answer.TheVariants as answer
+use Rattle.mj_texts.specs.declared.line.Line.{Line}
+use Rattle.mj_texts.specs.declared.line.Line.TheVariants as line
+use Rattle.mj_texts.specs.declared.answer.Answer.{Answer}
+use Rattle.mj_texts.specs.declared.answer.Answer.TheVariants as answer
 use Rattle.mj_app.specs.Answers.{IsLast}
 use Rattle.mj_app.specs.LineActs.{Stage, is_told}
 use Rattle.mj_app.specs.Told.{said_told, refusal_told}

@@ -7,9 +7,9 @@ use Rattle.mj_machine.specs.Machine.{LogMachine, Step, stepped, run}
 use Rattle.mj_machine.specs.Said.{is_answer}
 use Rattle.mj_world.specs.Live.{WorldLives}
 use Rattle.mj_world.specs.declared.world.World.{World}
-use Rattle.mj_lines.specs.declared.line.Line.{Line}
-use Rattle.mj_lines.specs.declared.line.Line.TheVariants as line
-use Rattle.mj_lines.specs.declared.answer.Answer.{Answer}
+use Rattle.mj_texts.specs.declared.line.Line.{Line}
+use Rattle.mj_texts.specs.declared.line.Line.TheVariants as line
+use Rattle.mj_texts.specs.declared.answer.Answer.{Answer}
 use Rattle.mj_app.specs.Answers.{GoesOn}
 use Rattle.mj_app.specs.Headline.{StopsIn, StopsAmong, EachWorked, WorkedIf, acts_in, machine_by, machine_behind}
 use Rattle.mj_app.specs.LineActs.{Stage, LineActs, AreNext}

@@ -13,11 +13,11 @@ use Rattle.mj_machine.specs.Machine.{LogMachine}
 use Rattle.mj_machine.specs.Said as machine
 use Rattle.mj_machine.specs.Said.{listed}
 use Rattle.mj_machine.specs.Script.{ScriptLine}
-use Rattle.mj_rank.specs.declared.answers.Reaped.TheVariants as reaped
+use Rattle.mj_texts.specs.declared.steps.Reaped.TheVariants as reaped
 use Rattle.mj_texts.specs.Text.{reply_words}
-use Rattle.mj_lines.specs.Text.{turn_text, damage_words, key_words, ends_words}
-use Rattle.mj_lines.specs.declared.answer.Answer.{Answer}
-use Rattle.mj_lines.specs.declared.answer.Answer.TheVariants as answer
+use Rattle.mj_texts.specs.AnswerText.{turn_text, damage_words, key_words, ends_words}
+use Rattle.mj_texts.specs.declared.answer.Answer.{Answer}
+use Rattle.mj_texts.specs.declared.answer.Answer.TheVariants as answer
 use Rattle.mj_app.specs.Turns.{said_of}
 
 same_key : (key : List ℕ) → key_words key ≡ machine_damage.key_words key

@@ -20,7 +20,7 @@ use Rattle.mj_machine.specs.Legal.{AllAgree, step_of, text_from, after_turns}
 use Rattle.mj_rank.specs.Live.{LeavesFronts, Rested, StopsSafely}
 use Rattle.mj_world.specs.Live.{told, machine_after}
 use Rattle.mj_world.specs.declared.world.World.{World}
-use Rattle.mj_lines.specs.declared.line.Line.{Line}
+use Rattle.mj_texts.specs.declared.line.Line.{Line}
 use Rattle.mj_app.specs.declared.status.Status.{Status}
 use Rattle.mj_app.specs.declared.status.Status.TheVariants as status
 use Rattle.mj_app.specs.Status.{code_of}

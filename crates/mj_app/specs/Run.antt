@@ -10,10 +10,10 @@ use Rattle.mj_store.specs.Causes.{Listed}
 use Rattle.mj_store.specs.Moves.{Stays}
 use Rattle.mj_store.specs.State.{StoreState}
 use Rattle.mj_world.specs.declared.world.World.{World}
-use Rattle.mj_lines.specs.Text.{turn_text}
-use Rattle.mj_lines.specs.declared.line.Line.{Line}
-use Rattle.mj_lines.specs.declared.answer.Answer.{Answer}
-use Rattle.mj_lines.specs.declared.answer.Answer.TheVariants as answer
+use Rattle.mj_texts.specs.AnswerText.{turn_text}
+use Rattle.mj_texts.specs.declared.line.Line.{Line}
+use Rattle.mj_texts.specs.declared.answer.Answer.{Answer}
+use Rattle.mj_texts.specs.declared.answer.Answer.TheVariants as answer
 use Rattle.mj_app.specs.declared.status.Status.{Status}
 use Rattle.mj_app.specs.declared.status.Status.TheVariants as status
 use Rattle.mj_app.specs.Answers.{IsStoreFault, IsDamage, IsLast, GoesOn}

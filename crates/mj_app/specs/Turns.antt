@@ -9,15 +9,15 @@ use Rattle.mj_machine.specs.Said as machine
 use Rattle.mj_machine.specs.Said.{Said as said, Word as word}
 use Rattle.mj_machine.specs.Script as script
 use Rattle.mj_machine.specs.Script.{ScriptLine as script_line}
-use Rattle.mj_rank.specs.declared.answers.Reaped.{Reaped}
-use Rattle.mj_rank.specs.declared.answers.Reaped.TheVariants as reaped
-use Rattle.mj_rank.specs.declared.answers.Span.{Span}
-use Rattle.mj_world.specs.declared.answers.Step.{Step}
-use Rattle.mj_world.specs.declared.answers.Step.TheVariants as step
-use Rattle.mj_lines.specs.declared.line.Line.{Line}
-use Rattle.mj_lines.specs.declared.line.Line.TheVariants as line
-use Rattle.mj_lines.specs.declared.answer.Answer.{Answer}
-use Rattle.mj_lines.specs.declared.answer.Answer.TheVariants as answer
+use Rattle.mj_texts.specs.declared.steps.Reaped.{Reaped}
+use Rattle.mj_texts.specs.declared.steps.Reaped.TheVariants as reaped
+use Rattle.mj_texts.specs.declared.steps.Span.{Span}
+use Rattle.mj_texts.specs.declared.steps.Step.{Step}
+use Rattle.mj_texts.specs.declared.steps.Step.TheVariants as step
+use Rattle.mj_texts.specs.declared.line.Line.{Line}
+use Rattle.mj_texts.specs.declared.line.Line.TheVariants as line
+use Rattle.mj_texts.specs.declared.answer.Answer.{Answer}
+use Rattle.mj_texts.specs.declared.answer.Answer.TheVariants as answer
 use Rattle.mj_app.specs.Run.{Worked}
 
 abbrev pub line_of_step : Step → script.ScriptLine

@@ -4,16 +4,16 @@ ghost use Rattle.std.specs.Prelude.{◌≡◌, ℕ, Option, Some, Ok, Err, IfOk,
 ghost use Rattle.mj_world.specs.Made.{Made};
 ghost use Rattle.mj_world.specs.World.{WorldSince, IsServing};
 ghost use Rattle.mj_world.specs.Steps.{Awaits};
-ghost use Rattle.mj_world.specs.declared.answers.Said.TheVariants.{Applied, Begun, Carried};
-ghost use Rattle.mj_lines.specs.declared.line.Line.TheVariants as line;
+ghost use Rattle.mj_texts.specs.declared.steps.Said.TheVariants.{Applied, Begun, Carried};
+ghost use Rattle.mj_texts.specs.declared.line.Line.TheVariants as line;
 ghost use Rattle.mj_app.specs.LineActs.{Stage, StepsOldest, ready, told_if};
 ghost use Rattle.mj_app.specs.Run.{WorksTo, answer_in};
 
 use crate::answer::answer_to;
 use mj_base::OpNo;
-use mj_lines::Answer;
 use mj_rank::MountStep;
 use mj_store::ObjectStore;
+use mj_texts::Answer;
 use mj_world::{Said, Step, World, WorldRefusal};
 use std::alloc::{AllocError, Global};
 

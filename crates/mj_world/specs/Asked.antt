@@ -5,10 +5,10 @@ use Rattle.mj_tree.specs.Listing.{listing}
 use Rattle.mj_cache.specs.Cached.{early_tree}
 use Rattle.mj_rank.specs.declared.rank.Rank.{Rank}
 use Rattle.mj_rank.specs.Request as request
-use Rattle.mj_world.specs.declared.answers.Said.{Said}
-use Rattle.mj_world.specs.declared.answers.Said.TheVariants.{Asked, State, Tree}
-use Rattle.mj_world.specs.declared.answers.WorldRefusal.{WorldRefusal}
-use Rattle.mj_world.specs.declared.answers.WorldRefusal.TheVariants as refusal
+use Rattle.mj_texts.specs.declared.steps.Said.{Said}
+use Rattle.mj_texts.specs.declared.steps.Said.TheVariants.{Asked, State, Tree}
+use Rattle.mj_world.specs.declared.refusal.WorldRefusal.{WorldRefusal}
+use Rattle.mj_world.specs.declared.refusal.WorldRefusal.TheVariants as refusal
 
 -- the rank is the one after the request, or as it was, over the same store
 abbrev pub Accepts : {S : Type 0} → ClientRequest → Rank S → Rank S → Type 0

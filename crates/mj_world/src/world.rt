@@ -6,10 +6,11 @@ ghost use Rattle.mj_store.specs.Causes.{Counted};
 ghost use Rattle.mj_rank.specs.Refusals.{IsStoreFault};
 ghost use Rattle.mj_world.specs.Refusals.{IsFault, IsDownRank, of_rank, of_mount};
 
-use crate::answers::{Said, Step, WorldRefusal};
+use crate::refusal::WorldRefusal;
 use mj_base::{Items, ObjectName, OpNo, RankNo};
-use mj_rank::{MountRefusal, MountStep, Mounting, Rank, RankRefusal};
+use mj_rank::{MountRefusal, Mounting, Rank, RankRefusal};
 use mj_store::ObjectStore;
+use mj_texts::{MountStep, Said, Step};
 use mj_tree::ClientRequest;
 use std::alloc::Global;
 use std::mem;

@@ -1,11 +1,11 @@
 //! Scripts.
 
 ghost use Rattle.std.specs.Prelude.{◌≡◌, All, IfOk, IfErr, Ok};
-ghost use Rattle.mj_lines.specs.Line.{IsServed};
-ghost use Rattle.mj_lines.specs.Script.{script_of, IsScriptRefusal};
+ghost use Rattle.mj_texts.specs.Line.{IsServed};
+ghost use Rattle.mj_texts.specs.Script.{script_of, IsScriptRefusal};
 
 use crate::line::{Line, read_line};
-use mj_texts::cut_at;
+use crate::words::cut_at;
 use std::alloc::{AllocError, AllocFailed, Global};
 
 /// Why bytes are no script.
@@ -18,7 +18,7 @@ pub enum ScriptRefusal {
 
 impl From<AllocError> for ScriptRefusal {
     ghost use Rattle.std.specs.Prelude.{◌≡◌};
-    ghost use Rattle.mj_lines.specs.declared.script.ScriptRefusal.TheVariants.{Memory};
+    ghost use Rattle.mj_texts.specs.declared.script.ScriptRefusal.TheVariants.{Memory};
 
     ghost from_gives = { λ _ e. e ≡ Memory };
 
@@ -29,7 +29,7 @@ impl From<AllocError> for ScriptRefusal {
 
 impl<T: Drop> From<AllocFailed<T>> for ScriptRefusal {
     ghost use Rattle.std.specs.Prelude.{◌≡◌};
-    ghost use Rattle.mj_lines.specs.declared.script.ScriptRefusal.TheVariants.{Memory};
+    ghost use Rattle.mj_texts.specs.declared.script.ScriptRefusal.TheVariants.{Memory};
 
     ghost from_gives = { λ _ e. e ≡ Memory };
 

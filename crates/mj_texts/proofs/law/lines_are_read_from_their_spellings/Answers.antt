@@ -1,5 +1,5 @@
-use Rattle.mj_lines.proofs.SpellingLemmas.{line_takes, line_again}
-use Rattle.mj_lines.proofs.law.lines_are_read_from_their_spellings.Goals as goal
+use Rattle.mj_texts.proofs.LineLemmas.{line_takes, line_again}
+use Rattle.mj_texts.proofs.law.lines_are_read_from_their_spellings.Goals as goal
 
 pub returns : goal.returns
 returns c =

@@ -1,7 +1,42 @@
-//! What a rank answers.
+//! The steps of a world and what it says to them.
 
-use mj_base::{ObjectName, OpNo};
-use mj_tree::Reply;
+use mj_base::{Items, ObjectName, OpNo};
+use mj_tree::{ClientRequest, Reply};
+
+/// One step of a world.
+#[derive(Drop)]
+pub enum Step {
+    Ask(ClientRequest),
+    Flush,
+    /// The store is to try the first pending operation of this object.
+    Apply(ObjectName),
+    Reap,
+    /// A mount begins.
+    Begin,
+    /// The mount goes on.
+    Carry,
+    /// The store is stopped and started again.
+    Restart,
+    /// The tree of all requests that were accepted.
+    Tree,
+    /// The same with the next inode and the sessions.
+    State,
+}
+
+/// What a world says to a step.
+#[derive(Drop)]
+pub enum Said {
+    Asked(Early),
+    Flushed(Span),
+    Applied(Option<OpNo>),
+    Reaped(Reaped),
+    /// The journal's tail.
+    Begun(u64),
+    Carried(MountStep),
+    Restarted,
+    Tree(Items<u8>),
+    State(Items<u8>),
+}
 
 /// The answer to a request, given before anything of it is written.
 #[derive(Drop)]
@@ -40,11 +75,4 @@ pub enum MountStep {
     /// An acknowledgement is still to come.
     Waiting,
     Ready,
-}
-
-/// Why a rank is down: the operation that was not done, if one was, and the store's count of faults then.
-#[derive(Clone, Copy, Debug, PartialEq, Eq)]
-pub struct Fault {
-    pub op: Option<OpNo>,
-    pub faults: u64,
 }

@@ -1,10 +1,10 @@
 //! Damage as text.
 
 ghost use Rattle.std.specs.Prelude.{◌≡◌, ◌++◌, ◌∷◌, OnOk};
-ghost use Rattle.mj_lines.specs.Text.{damage_text, bad_directory_text};
+ghost use Rattle.mj_texts.specs.DamageText.{damage_text, bad_directory_text};
 
+use crate::text::{Word, append_line, append_numbers};
 use mj_base::{Damage, Ino, Items};
-use mj_texts::{Word, append_line, append_numbers};
 use std::alloc::AllocError;
 
 /// Appends the line of a damage.

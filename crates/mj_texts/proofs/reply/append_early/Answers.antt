@@ -3,8 +3,8 @@ use Rattle.std.specs.List.{flat_map}
 use Rattle.mj_tree.specs.Listing.{words}
 use Rattle.mj_texts.specs.Text.{reply_words}
 use Rattle.mj_texts.proofs.TextLemmas.{reply_then}
-use Rattle.mj_lines.specs.Text.{ends_words}
-use Rattle.mj_lines.proofs.reply.append_early.Goals as goal
+use Rattle.mj_texts.specs.Text.{ends_words}
+use Rattle.mj_texts.proofs.reply.append_early.Goals as goal
 
 pub returns : goal.returns
 returns c =

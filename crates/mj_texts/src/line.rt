@@ -1,11 +1,12 @@
 //! The lines of a script.
 
 ghost use Rattle.std.specs.Prelude.{◌≡◌, IfOk, IfSome};
-ghost use Rattle.mj_lines.specs.Line.{line_of};
-ghost use Rattle.mj_lines.specs.Line.{of_words, is_blank, ask_of, step_of, IsServed};
+ghost use Rattle.mj_texts.specs.Line.{line_of};
+ghost use Rattle.mj_texts.specs.Line.{of_words, is_blank, ask_of, step_of, IsServed};
 
-use mj_texts::{Words, is_all_ascii, is_word, last, read_request};
-use mj_world::Step;
+use crate::request::read_request;
+use crate::steps::Step;
+use crate::words::{Words, is_all_ascii, is_word, last};
 use std::alloc::{AllocError, Global};
 
 /// A line of a script.

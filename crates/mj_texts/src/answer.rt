@@ -2,13 +2,13 @@
 
 ghost use Rattle.std.specs.Prelude.{◌≡◌, ◌++◌, ◌∷◌, [], OnOk};
 ghost use Rattle.mj_tree.specs.Listing.{line};
-ghost use Rattle.mj_lines.specs.Text.{answer_text, turn_text, flushed_words, reaped_words, applied_words};
+ghost use Rattle.mj_texts.specs.AnswerText.{answer_text, turn_text, flushed_words, reaped_words, applied_words};
 
 use crate::damage::append_damage;
 use crate::reply::append_early;
+use crate::steps::{Early, Reaped, Span};
+use crate::text::{Word, append_line, append_number, append_numbers};
 use mj_base::{Damage, Items, ObjectName, OpNo};
-use mj_rank::{Early, Reaped, Span};
-use mj_texts::{Word, append_line, append_number, append_numbers};
 use std::alloc::AllocError;
 
 /// What a line of a script is answered with.

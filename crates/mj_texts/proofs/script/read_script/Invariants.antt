@@ -1,8 +1,8 @@
 use Rattle.std.proofs.Common.{◌≡◌, ◌+◌, ◌==◌, length, vec_len}
 use Rattle.std.specs.List.{slice_split, All}
 use Rattle.mj_texts.specs.Lines.{before, lines_from, lines_of}
-use Rattle.mj_lines.specs.Line.{IsServed, line_of}
-use Rattle.mj_lines.proofs.script.read_script.Given as goal
+use Rattle.mj_texts.specs.Line.{IsServed, line_of}
+use Rattle.mj_texts.proofs.script.read_script.Given as goal
 
 abbrev pub invariant-lines : goal.invariant-lines
 invariant-lines l = record {

@@ -2,8 +2,8 @@ use Rattle.std.proofs.Common.{ℕ, List, [], ◌++◌, ◌∷◌, ◌∙◌, sym
 use Rattle.std.specs.Fmt.{decimal}
 use Rattle.mj_base.specs.Name.{escaped}
 use Rattle.mj_tree.specs.Listing.{words}
-use Rattle.mj_lines.proofs.TextLemmas.{some_key}
-use Rattle.mj_lines.proofs.damage.append_bad_directory.Goals as goal
+use Rattle.mj_texts.proofs.DamageLemmas.{some_key}
+use Rattle.mj_texts.proofs.damage.append_bad_directory.Goals as goal
 
 pub returns-in_ok-append_line : goal.returns-in_ok-append_line
 returns-in_ok-append_line c =

@@ -5,10 +5,10 @@ use Rattle.std.specs.Char.{is_ascii}
 use Rattle.mj_base.specs.ObjectName.{object_text, IsObjectName}
 use Rattle.mj_tree.specs.Listing.{words}
 use Rattle.mj_texts.specs.Spelling.{SpellsRequest, RequestInRange}
-use Rattle.mj_lines.specs.declared.line.Line.{Line}
-use Rattle.mj_lines.specs.declared.line.Line.TheVariants as line
-use Rattle.mj_world.specs.declared.answers.Step.TheVariants.{Apply, Ask, Flush, Reap, Restart, State, Tree}
-use Rattle.mj_lines.specs.Line.{is_blank}
+use Rattle.mj_texts.specs.declared.line.Line.{Line}
+use Rattle.mj_texts.specs.declared.line.Line.TheVariants as line
+use Rattle.mj_texts.specs.declared.steps.Step.TheVariants.{Apply, Ask, Flush, Reap, Restart, State, Tree}
+use Rattle.mj_texts.specs.Line.{is_blank}
 
 -- the words of a line that has some
 abbrev pub SpellsWords : Line → List (List ℕ) → Type 0

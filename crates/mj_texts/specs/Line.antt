@@ -7,9 +7,9 @@ use Rattle.mj_tree.specs.Request.{IsRequest}
 use Rattle.mj_texts.specs.Words.{words_of, ◌>>=◌, field, last}
 use Rattle.mj_texts.specs.Object.{object_of}
 use Rattle.mj_texts.specs.Request.{request_of}
-use Rattle.mj_lines.specs.declared.line.Line.{Line}
-use Rattle.mj_lines.specs.declared.line.Line.TheVariants as line
-use Rattle.mj_world.specs.declared.answers.Step.TheVariants.{Apply, Ask, Begin, Carry, Flush, Reap, Restart, State, Tree}
+use Rattle.mj_texts.specs.declared.line.Line.{Line}
+use Rattle.mj_texts.specs.declared.line.Line.TheVariants as line
+use Rattle.mj_texts.specs.declared.steps.Step.TheVariants.{Apply, Ask, Begin, Carry, Flush, Reap, Restart, State, Tree}
 
 abbrev pub ask_of : List (List ℕ) → Option Line
 ask_of words = do

@@ -3,8 +3,8 @@ use Rattle.std.specs.List.{slice_split}
 use Rattle.std.proofs.lemmas.List.Elements.{All-push}
 use Rattle.mj_texts.specs.Lines.{before, lines_from}
 use Rattle.mj_texts.proofs.LinesLemmas.{all_read, not_ended, one_outside, one_more}
-use Rattle.mj_lines.specs.Line.{IsServed, line_of}
-use Rattle.mj_lines.proofs.script.read_script.Goals as goal
+use Rattle.mj_texts.specs.Line.{IsServed, line_of}
+use Rattle.mj_texts.proofs.script.read_script.Goals as goal
 
 pub returns-in-None-clause-refused : goal.returns-in-None-clause-refused
 returns-in-None-clause-refused c =

@@ -17,11 +17,11 @@ use Rattle.mj_texts.specs.Spelling.{SpellsRequest, RequestInRange, is_plain_word
 use Rattle.mj_texts.proofs.FieldLemmas.{chosen, passed, bound, read_field, ends_here, word_is}
 use Rattle.mj_texts.proofs.ObjectLemmas.{object_of-text, object_of-names}
 use Rattle.mj_texts.proofs.WordLemmas.{words_of_text, split_words, words_ascii, plain_object}
-use Rattle.mj_lines.specs.declared.line.Line.{Line}
-use Rattle.mj_lines.specs.declared.line.Line.TheVariants as line
-use Rattle.mj_world.specs.declared.answers.Step.TheVariants.{Apply, Ask, Begin, Carry, Flush, Reap, Restart, State, Tree}
-use Rattle.mj_lines.specs.Line.{ask_of, step_of, of_words, is_blank, line_of}
-use Rattle.mj_lines.specs.Spelling.{SpellsWords, IsSpelling, InRange}
+use Rattle.mj_texts.specs.declared.line.Line.{Line}
+use Rattle.mj_texts.specs.declared.line.Line.TheVariants as line
+use Rattle.mj_texts.specs.declared.steps.Step.TheVariants.{Apply, Ask, Begin, Carry, Flush, Reap, Restart, State, Tree}
+use Rattle.mj_texts.specs.Line.{ask_of, step_of, of_words, is_blank, line_of}
+use Rattle.mj_texts.specs.LineSpelling.{SpellsWords, IsSpelling, InRange}
 
 -- some words are those of the line, and make a text that is no comment
 record Reads (l : Line) (w : List ℕ) (ws : List (List ℕ)) : Type 0 where
