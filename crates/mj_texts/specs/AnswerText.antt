@@ -46,3 +46,8 @@ answer_text (answer.StoreFault n) = line (codes "store" ∷ decimal n ∷ [])
 -- the text of the n-th line's answer
 abbrev pub turn_text : ℕ → Answer → List ℕ
 turn_text n a = decimal n ++ codes ": " ++ answer_text a
+
+-- what the n-th line prints: nothing where it has no answer
+abbrev pub told_text : ℕ → Option Answer → List ℕ
+told_text n None = []
+told_text n (Some a) = turn_text n a

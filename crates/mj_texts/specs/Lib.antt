@@ -10,3 +10,4 @@ pub mod LineSpelling
 pub mod Script
 pub mod DamageText
 pub mod AnswerText
+pub mod Answers

@@ -2,7 +2,7 @@ use Rattle.std.proofs.Common.{inl, inr, refl}
 use Rattle.mj_model.specs.Chronicle.{chronicle_of}
 use Rattle.mj_app.specs.Call.{files_state}
 use Rattle.mj_app.proofs.CallLemmas.{read_exact, refused, refusal_exact}
-use Rattle.mj_app.proofs.chronicle.answer_file.Goals as goal
+use Rattle.mj_app.proofs.chronicle.answer_chronicle.Goals as goal
 
 pub returns-in-Ok-clause-says : goal.returns-in-Ok-clause-says
 returns-in-Ok-clause-says g c = inr (_, c.in-Ok.ensures.lines, rw c.deref.ensures.value at c.answer_lines.ensures)
