@@ -5,12 +5,12 @@ use Rattle.mj_store.specs.Causes.{Listed}
 use Rattle.mj_store.specs.State.{StoreState}
 use Rattle.mj_machine.specs.Machine.{LogMachine, stopped}
 use Rattle.mj_rank.specs.Live.{StopsSafely}
-use Rattle.mj_rank.specs.declared.answers.MountStep.TheVariants as mount
-use Rattle.mj_world.specs.declared.answers.Said.{Said}
-use Rattle.mj_world.specs.declared.answers.Said.TheVariants as said
-use Rattle.mj_world.specs.declared.answers.Step.{Step}
-use Rattle.mj_world.specs.declared.answers.Step.TheVariants as step
-use Rattle.mj_world.specs.declared.answers.WorldRefusal.{WorldRefusal}
+use Rattle.mj_texts.specs.declared.steps.MountStep.TheVariants as mount
+use Rattle.mj_texts.specs.declared.steps.Said.{Said}
+use Rattle.mj_texts.specs.declared.steps.Said.TheVariants as said
+use Rattle.mj_texts.specs.declared.steps.Step.{Step}
+use Rattle.mj_texts.specs.declared.steps.Step.TheVariants as step
+use Rattle.mj_world.specs.declared.refusal.WorldRefusal.{WorldRefusal}
 use Rattle.mj_world.specs.declared.world.Phase.{Phase}
 use Rattle.mj_world.specs.declared.world.Phase.TheVariants as phase
 use Rattle.mj_world.specs.declared.world.World.{World}
@@ -18,10 +18,10 @@ use Rattle.mj_world.specs.Live.{WorldLives, told, machine_after}
 use Rattle.mj_world.specs.Made.{Made}
 use Rattle.mj_world.specs.Oldest.{oldest_sent}
 use Rattle.mj_world.specs.Phases.{phase_refusal, ByPhase, IsOfPhase}
-use Rattle.mj_lines.specs.declared.line.Line.{Line}
-use Rattle.mj_lines.specs.declared.line.Line.TheVariants as line
-use Rattle.mj_lines.specs.declared.answer.Answer.{Answer}
-use Rattle.mj_lines.specs.declared.answer.Answer.TheVariants as answer
+use Rattle.mj_texts.specs.declared.line.Line.{Line}
+use Rattle.mj_texts.specs.declared.line.Line.TheVariants as line
+use Rattle.mj_texts.specs.declared.answer.Answer.{Answer}
+use Rattle.mj_texts.specs.declared.answer.Answer.TheVariants as answer
 use Rattle.mj_app.specs.Headline.{StopsIn, machine_by}
 use Rattle.mj_app.specs.LineActs.{Stage, LineActs, AreNext, own_stage, next_step, stage_after, stage_by, is_told, carried, ready, waits_for}
 use Rattle.mj_app.specs.Told.{said_told, refusal_told}

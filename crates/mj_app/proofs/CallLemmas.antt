@@ -10,9 +10,9 @@ use Rattle.mj_store.specs.State.{StoreState}
 use Rattle.mj_format.specs.declared.refusal.FormatRefusal.{FormatRefusal}
 use Rattle.mj_format.specs.declared.refusal.FormatRefusal.TheVariants as format
 use Rattle.mj_layout.specs.Striping.{Striping}
-use Rattle.mj_lines.specs.Script.{script_of}
-use Rattle.mj_lines.specs.declared.line.Line.{Line}
-use Rattle.mj_lines.specs.declared.answer.Answer.{Answer}
+use Rattle.mj_texts.specs.Script.{script_of}
+use Rattle.mj_texts.specs.declared.line.Line.{Line}
+use Rattle.mj_texts.specs.declared.answer.Answer.{Answer}
 use Rattle.mj_app.specs.declared.read.ReadRefusal.{ReadRefusal}
 use Rattle.mj_app.specs.declared.read.ReadRefusal.TheVariants as read
 use Rattle.mj_app.specs.declared.status.Status.{Status}

@@ -5,21 +5,22 @@ use Rattle.mj_store.specs.Causes.{Listed}
 use Rattle.mj_store.specs.Events.{Tells}
 use Rattle.mj_store.specs.State.{StoreState}
 use Rattle.mj_rank.specs.Live.{LeavesFronts, Rested}
+use Rattle.mj_machine.specs.Legal.{text_from}
 use Rattle.mj_machine.specs.Machine.{LogMachine}
 use Rattle.mj_rank.proofs.FormattedRests.{formatted_rested}
 use Rattle.mj_world.specs.Live.{WorldLives}
 use Rattle.mj_world.specs.declared.world.World.{World}
 use Rattle.mj_layout.specs.Striping.{Striping}
-use Rattle.mj_lines.specs.Text.{turn_text}
-use Rattle.mj_lines.specs.declared.line.Line.{Line}
-use Rattle.mj_lines.specs.declared.answer.Answer.{Answer}
+use Rattle.mj_texts.specs.AnswerText.{turn_text}
+use Rattle.mj_texts.specs.declared.line.Line.{Line}
+use Rattle.mj_texts.specs.declared.answer.Answer.{Answer}
 use Rattle.mj_app.specs.declared.status.Status.{Status}
 use Rattle.mj_app.specs.declared.status.Status.TheVariants as status
 use Rattle.mj_app.specs.Status.{code_of}
 use Rattle.mj_app.specs.Call.{FilesState, EndSays}
 use Rattle.mj_app.specs.Headline.{IsFormatted, Begun, Whole, NotBegun, Headline, HeadlineAt, HasHeadline, HasFirstHeadline, Playing, RestsAgain, new_machine, line_in, acts_in}
 use Rattle.mj_app.specs.Words.{Format, Play, Model}
-use Rattle.mj_app.specs.Run.{Worked, Works, SaysAll, EndsAt, OverRestarted, FailsToStart, LineEnds, all_said, lines_of, world_behind}
+use Rattle.mj_app.specs.Run.{Worked, Works, SaysAll, EndsAt, OverRestarted, FailsToStart, LineEnds, lines_of, turns_of, world_behind}
 use Rattle.mj_model.specs.Took.{SinkState, TookAll, TookNone, FailedIn, TookOrFailed}
 use Rattle.mj_app.specs.Worlds.{IsRestarted, Opens, HoldsStore, world_after}
 use Rattle.mj_app.proofs.Leaving.{world_leaves, world_rests, opens_lives, rested_again, rested_restarts, rested_stays, restart_stops, stay_stops, rested_tells, still_stops}
@@ -43,7 +44,7 @@ module _ {S : Type 0} (state : S → Option StoreState) (faults : S → ℕ) (un
   -- ---- lines were worked
 
   abbrev begun : (Took : List ℕ → Type 0) (lines rest : List Line) (store : S) (first : World S) (ws : List (Worked S)) (unsaid : Option (Worked S)) → IsRestarted state faults unreported before store → Opens rank store first
-      → Read state faults unreported rank 1 m first ws unsaid → HoldsStore (world_after (world_behind first ws) (acts_in unsaid)) after → lines ≡ lines_of ws ++ line_in unsaid ++ rest → Took (all_said 1 ws)
+      → Read state faults unreported rank m first ws unsaid → HoldsStore (world_after (world_behind first ws) (acts_in unsaid)) after → lines ≡ lines_of ws ++ line_in unsaid ++ rest → Took (text_from 1 (turns_of ws))
       → Begun state faults unreported rank m Took before after lines
   begun Took lines rest store first ws unsaid restarted opens r holds are took = record {
     store = store;
@@ -58,7 +59,7 @@ module _ {S : Type 0} (state : S → Option StoreState) (faults : S → ℕ) (un
     rest = rest;
     lines_are = are;
     agree = r.agree;
-    text = subst Took r.text took;
+    text = took;
     restart = restart_stops rank m t restarted.told;
     stops = r.stops;
     stops_unsaid = r.stops_unsaid;
@@ -75,9 +76,9 @@ module _ {S : Type 0} (state : S → Option StoreState) (faults : S → ℕ) (un
   whole lines old new o =
       let s = o.over.says in
       let lives = first_lives o.store o.over.first o.restarted o.over.opens in
-      let r : Read state faults unreported rank 1 m o.over.first (s.worked ++ []) None = reads state faults unreported rank 1 m o.over.first s.worked [] None s.works lives o.over.opens.number (λ n k l z. read_none state faults unreported rank n k (world_behind o.over.first s.worked) l z) in
+      let r : Read state faults unreported rank m o.over.first (s.worked ++ []) None = reads state faults unreported rank m o.over.first s.worked [] None s.works lives o.over.opens.number (λ k l z. read_none state faults unreported rank k (world_behind o.over.first s.worked) l z) in
       record {
-        begun = begun (λ text. TookAll text old new) lines [] o.store o.over.first s.worked None o.restarted o.over.opens (subst (λ ws. Read state faults unreported rank 1 m o.over.first ws None) (append-nil s.worked) r)
+        begun = begun (λ text. TookAll text old new) lines [] o.store o.over.first s.worked None o.restarted o.over.opens (subst (λ ws. Read state faults unreported rank m o.over.first ws None) (append-nil s.worked) r)
             (subst (λ w. HoldsStore w after) s.last_is o.over.holds) (s.lines_are ∙ no_more (lines_of s.worked)) s.text;
         all = refl;
         said = refl;
@@ -95,28 +96,28 @@ module _ {S : Type 0} (state : S → Option StoreState) (faults : S → ℕ) (un
 
   -- the last line has its text
   said_begun : (Took : List ℕ → Type 0) (s : Status) (lines : List Line) (old new : SinkState) (o : OverRestarted state faults unreported rank before after (EndsAt state faults unreported s lines old new)) (a : Answer) → o.over.says.ending.told ≡ Some a
-      → Took (all_said 1 o.over.says.worked ++ turn_text (length o.over.says.worked + 1) a) → Begun state faults unreported rank m Took before after lines
+      → Took (text_from 1 (turns_of o.over.says.worked) ++ turn_text (length o.over.says.worked + 1) a) → Begun state faults unreported rank m Took before after lines
   said_begun Took s lines old new o a is took =
       let e = o.over.says in
       let w : Worked S = with_told e.ending.line e.ending.acts (Some a) in
       let works : Works state faults unreported (world_behind o.over.first e.worked) w = subst (λ x. Works state faults unreported (world_behind o.over.first e.worked) (with_told e.ending.line e.ending.acts x)) is e.ends_in in
       let number : length e.worked + 1 ≡ 1 + length e.worked = omega arith in
       begun Took lines e.rest o.store o.over.first (e.worked ++ w ∷ []) None o.restarted o.over.opens
-      (reads state faults unreported rank 1 m o.over.first e.worked (w ∷ []) None e.works (first_lives o.store o.over.first o.restarted o.over.opens) o.over.opens.number
-      (λ n k l z. read_said state faults unreported rank n k (world_behind o.over.first e.worked) e.ending.line e.ending.acts a works l z))
+      (reads state faults unreported rank m o.over.first e.worked (w ∷ []) None e.works (first_lives o.store o.over.first o.restarted o.over.opens) o.over.opens.number
+      (λ k l z. read_said state faults unreported rank k (world_behind o.over.first e.worked) e.ending.line e.ending.acts a works l z))
       (all_holds o.over.first o.over.last e.worked w e.last_is o.over.holds)
       (all_lines e.worked w e.rest lines e.lines_are)
-      (subst Took (ap (λ n. all_said 1 e.worked ++ turn_text n a) number ∙ sym (said_more 1 e.worked w)) took)
+      (subst Took (ap (λ n. text_from 1 (turns_of e.worked) ++ turn_text n a) number ∙ sym (said_more 1 e.worked w)) took)
 
   -- it has none
   unsaid_begun : (Took : List ℕ → Type 0) (s : Status) (lines : List Line) (old new : SinkState) (o : OverRestarted state faults unreported rank before after (EndsAt state faults unreported s lines old new))
-      → Took (all_said 1 o.over.says.worked) → Begun state faults unreported rank m Took before after lines
+      → Took (text_from 1 (turns_of o.over.says.worked)) → Begun state faults unreported rank m Took before after lines
   unsaid_begun Took s lines old new o took =
       let e = o.over.says in
-      let r : Read state faults unreported rank 1 m o.over.first (e.worked ++ []) (Some e.ending) = reads state faults unreported rank 1 m o.over.first e.worked [] (Some e.ending) e.works (first_lives o.store o.over.first o.restarted o.over.opens) o.over.opens.number
-      (λ n k l z. read_unsaid state faults unreported rank n k (world_behind o.over.first e.worked) e.ending e.ends_in l z) in
+      let r : Read state faults unreported rank m o.over.first (e.worked ++ []) (Some e.ending) = reads state faults unreported rank m o.over.first e.worked [] (Some e.ending) e.works (first_lives o.store o.over.first o.restarted o.over.opens) o.over.opens.number
+      (λ k l z. read_unsaid state faults unreported rank k (world_behind o.over.first e.worked) e.ending e.ends_in l z) in
       begun Took lines e.rest o.store o.over.first e.worked (Some e.ending) o.restarted o.over.opens
-      (subst (λ ws. Read state faults unreported rank 1 m o.over.first ws (Some e.ending)) (append-nil e.worked) r)
+      (subst (λ ws. Read state faults unreported rank m o.over.first ws (Some e.ending)) (append-nil e.worked) r)
       (subst (λ w. HoldsStore w after) e.last_is o.over.holds)
       (e.lines_are ∙ sym (append_assoc (lines_of e.worked) (e.ending.line ∷ []) e.rest))
       took

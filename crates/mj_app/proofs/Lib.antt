@@ -5,7 +5,6 @@ pub mod CallLemmas
 pub mod WordsLemmas
 pub mod FormatsLemmas
 pub mod ImageLemmas
-pub mod TurnTexts
 pub mod Fits
 pub mod MadeFits
 pub mod LineReads

@@ -5,17 +5,17 @@ use Rattle.mj_store.specs.Causes.{Listed}
 use Rattle.mj_store.specs.State.{StoreState}
 use Rattle.mj_tree.specs.declared.request.ClientRequest.{ClientRequest}
 use Rattle.mj_rank.specs.Refusals.{IsDownFor}
-use Rattle.mj_rank.specs.declared.answers.Fault.{Fault}
-use Rattle.mj_rank.specs.declared.answers.MountStep.{MountStep}
-use Rattle.mj_rank.specs.declared.answers.MountStep.TheVariants as mount
+use Rattle.mj_rank.specs.declared.refusal.Fault.{Fault}
+use Rattle.mj_texts.specs.declared.steps.MountStep.{MountStep}
+use Rattle.mj_texts.specs.declared.steps.MountStep.TheVariants as mount
 use Rattle.mj_rank.specs.declared.refusal.RankRefusal.{RankRefusal}
 use Rattle.mj_rank.specs.declared.refusal.RankRefusal.TheVariants as rank_refusal
-use Rattle.mj_world.specs.declared.answers.Said.{Said}
-use Rattle.mj_world.specs.declared.answers.Said.TheVariants as said
-use Rattle.mj_world.specs.declared.answers.Step.{Step}
-use Rattle.mj_world.specs.declared.answers.Step.TheVariants as step
-use Rattle.mj_world.specs.declared.answers.WorldRefusal.{WorldRefusal}
-use Rattle.mj_world.specs.declared.answers.WorldRefusal.TheVariants as refusal
+use Rattle.mj_texts.specs.declared.steps.Said.{Said}
+use Rattle.mj_texts.specs.declared.steps.Said.TheVariants as said
+use Rattle.mj_texts.specs.declared.steps.Step.{Step}
+use Rattle.mj_texts.specs.declared.steps.Step.TheVariants as step
+use Rattle.mj_world.specs.declared.refusal.WorldRefusal.{WorldRefusal}
+use Rattle.mj_world.specs.declared.refusal.WorldRefusal.TheVariants as refusal
 use Rattle.mj_world.specs.declared.world.Phase.{Phase}
 use Rattle.mj_world.specs.declared.world.Phase.TheVariants as phase
 use Rattle.mj_world.specs.declared.world.World.{World}

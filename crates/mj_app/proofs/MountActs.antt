@@ -3,17 +3,17 @@ use Rattle.std.proofs.Common.{◌≡◌, ℕ, List, Option, Some, None, Ok, Err,
 use Rattle.mj_base.specs.declared.object.ObjectName.{ObjectName}
 use Rattle.mj_store.specs.Causes.{Listed}
 use Rattle.mj_store.specs.State.{StoreState}
-use Rattle.mj_rank.specs.declared.answers.MountStep.TheVariants as mount
-use Rattle.mj_world.specs.declared.answers.Said.TheVariants.{Applied, Begun, Carried}
-use Rattle.mj_world.specs.declared.answers.Step.TheVariants as step
-use Rattle.mj_world.specs.declared.answers.WorldRefusal.{WorldRefusal}
+use Rattle.mj_texts.specs.declared.steps.MountStep.TheVariants as mount
+use Rattle.mj_texts.specs.declared.steps.Said.TheVariants.{Applied, Begun, Carried}
+use Rattle.mj_texts.specs.declared.steps.Step.TheVariants as step
+use Rattle.mj_world.specs.declared.refusal.WorldRefusal.{WorldRefusal}
 use Rattle.mj_world.specs.declared.world.Phase.{Phase}
 use Rattle.mj_world.specs.declared.world.World.{World}
 use Rattle.mj_world.specs.Made.{Made}
 use Rattle.mj_world.specs.Oldest.{oldest_sent}
-use Rattle.mj_lines.specs.declared.line.Line.TheVariants as line
-use Rattle.mj_lines.specs.declared.answer.Answer.{Answer}
-use Rattle.mj_lines.specs.declared.answer.Answer.TheVariants as answer
+use Rattle.mj_texts.specs.declared.line.Line.TheVariants as line
+use Rattle.mj_texts.specs.declared.answer.Answer.{Answer}
+use Rattle.mj_texts.specs.declared.answer.Answer.TheVariants as answer
 use Rattle.mj_app.specs.LineActs.{Stage, StepsOldest, next_step, stage_after, ready, waits_for}
 use Rattle.mj_app.specs.Run.{WorksTo}
 use Rattle.mj_app.specs.Told.{refusal_told}

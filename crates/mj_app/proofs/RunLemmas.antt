@@ -6,27 +6,29 @@ use Rattle.mj_store.specs.Causes.{Listed}
 use Rattle.mj_store.specs.State.{StoreState}
 use Rattle.mj_world.specs.declared.world.World.{World}
 use Rattle.mj_world.specs.World.{WorldSince}
-use Rattle.mj_lines.specs.declared.line.Line.{Line}
-use Rattle.mj_lines.specs.declared.answer.Answer.{Answer}
-use Rattle.mj_lines.specs.declared.answer.Answer.TheVariants as answer
+use Rattle.mj_machine.specs.Legal.{text_from}
+use Rattle.mj_texts.specs.AnswerText.{told_text}
+use Rattle.mj_texts.specs.declared.line.Line.{Line}
+use Rattle.mj_texts.specs.declared.answer.Answer.{Answer}
+use Rattle.mj_texts.specs.declared.answer.Answer.TheVariants as answer
 use Rattle.mj_app.specs.declared.status.Status.{Status}
 use Rattle.mj_app.specs.declared.status.Status.TheVariants.{Done, Damage, Words, Refused, Memory, Store, Files, Grammar, Sink}
 use Rattle.mj_app.specs.Answers.{GoesOn}
 use Rattle.mj_model.specs.Took.{SinkState, TookAll}
 use Rattle.mj_app.specs.LineActs.{LineActs}
 use Rattle.mj_app.specs.Worlds.{world_after}
-use Rattle.mj_app.specs.Run.{OverRestarted, Worked, Works, WorksTo, AllWorked, SaysAll, EndsAt, LineEnds, RunSays, said, all_said, lines_of, world_behind}
+use Rattle.mj_app.specs.Run.{OverRestarted, Worked, Works, WorksTo, AllWorked, SaysAll, EndsAt, LineEnds, RunSays, lines_of, turns_of, world_behind}
 use Rattle.mj_model.proofs.TookLemmas.{took_nothing, took_more}
 use Rattle.mj_app.proofs.WorldsLemmas.{acts_since, opens_since, failed_held, works_failed}
 
 -- ---- texts
 
-pub said_more : {S : Type 0} (n : ℕ) (ws : List (Worked S)) (w : Worked S) → all_said n (ws ++ w ∷ []) ≡ all_said n ws ++ said (n + length ws) w.told
-said_more n [] w = let same : n ≡ n + 0 = omega arith in append-nil (said n w.told) ∙ ap (λ k. said k w.told) same
+pub said_more : {S : Type 0} (n : ℕ) (ws : List (Worked S)) (w : Worked S) → text_from n (turns_of (ws ++ w ∷ [])) ≡ text_from n (turns_of ws) ++ told_text (n + length ws) w.told
+said_more n [] w = let same : n ≡ n + 0 = omega arith in append-nil (told_text n w.told) ∙ ap (λ k. told_text k w.told) same
 said_more n (v ∷ ws) w =
     let same : n + 1 + length ws ≡ n + length (v ∷ ws) = omega arith in
-    ap (λ t. said n v.told ++ t) (said_more (n + 1) ws w) ∙ sym (append_assoc (said n v.told) (all_said (n + 1) ws) (said (n + 1 + length ws) w.told))
-    ∙ ap (λ k. (said n v.told ++ all_said (n + 1) ws) ++ said k w.told) same
+    ap (λ t. told_text n v.told ++ t) (said_more (n + 1) ws w) ∙ sym (append_assoc (told_text n v.told) (text_from (n + 1) (turns_of ws)) (told_text (n + 1 + length ws) w.told))
+    ∙ ap (λ k. (told_text n v.told ++ text_from (n + 1) (turns_of ws)) ++ told_text k w.told) same
 
 -- ---- lines
 
@@ -62,7 +64,7 @@ module _ {S : Type 0} (state : S → Option StoreState) (faults : S → ℕ) (un
     pub lines_are : lines ≡ lines_of worked ++ drop i lines
     pub works : AllWorked state faults unreported first worked
     pub last_is : last ≡ world_behind first worked
-    pub text : TookAll (all_said 1 worked) old new
+    pub text : TookAll (text_from 1 (turns_of worked)) old new
     pub later : old.faults ≤ new.faults
     pub count : length worked ≡ i
 
@@ -78,7 +80,7 @@ module _ {S : Type 0} (state : S → Option StoreState) (faults : S → ℕ) (un
       e ∙ sym (append_assoc (lines_of ws) (w.line ∷ []) rest) ∙ ap (λ ls. ls ++ rest) (sym (map-append (λ (v : Worked S). v.line) ws (w ∷ [])))
 
   pub up_to_more : (i : ℕ) (lines : List Line) (line : Line) {told : Option Answer} (old middle new : SinkState) (first at next : World S) → UpTo i lines old middle first at → drop i lines ≡ line ∷ drop (i + 1) lines
-      → WorksTo state faults unreported line at told next → GoesOn line told → TookAll (said (i + 1) told) middle new → middle.faults ≤ new.faults → UpTo (i + 1) lines old new first next
+      → WorksTo state faults unreported line at told next → GoesOn line told → TookAll (told_text (i + 1) told) middle new → middle.faults ≤ new.faults → UpTo (i + 1) lines old new first next
   up_to_more i lines line {told} old middle new first at next u e w goes took later =
       let number : i + 1 ≡ 1 + length u.worked = omega (arith, u.count) in
       record {
@@ -86,7 +88,7 @@ module _ {S : Type 0} (state : S → Option StoreState) (faults : S → ℕ) (un
         lines_are = lines_more u.worked (worked_of w) (drop (i + 1) lines) lines (u.lines_are ∙ ap (λ ls. lines_of u.worked ++ ls) e);
         works = all_more first u.worked (worked_of w) u.works (subst (λ x. Works state faults unreported x (worked_of w)) u.last_is (works_of w)) goes;
         last_is = behind_more first u.worked (worked_of w) at next u.last_is w.last;
-        text = subst (λ t. TookAll t old new) (sym (said_more 1 u.worked (worked_of w))) (took_more (all_said 1 u.worked) (said (1 + length u.worked) told) old middle new u.text (subst (λ n. TookAll (said n told) middle new) number took));
+        text = subst (λ t. TookAll t old new) (sym (said_more 1 u.worked (worked_of w))) (took_more (text_from 1 (turns_of u.worked)) (told_text (1 + length u.worked) told) old middle new u.text (subst (λ n. TookAll (told_text n told) middle new) number took));
         later = omega (arith, u.later);
         count = omega (arith, u.count, length_push u.worked (worked_of w));
       }

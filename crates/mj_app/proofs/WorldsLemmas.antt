@@ -6,13 +6,13 @@ use Rattle.mj_store.specs.Causes.{Listed, Counted}
 use Rattle.mj_store.specs.State.{StoreState}
 use Rattle.mj_rank.specs.declared.refusal.RankRefusal.TheVariants as rank_refusal
 use Rattle.mj_rank.specs.declared.refusal.MountRefusal.TheVariants as mount_refusal
-use Rattle.mj_rank.specs.declared.answers.MountStep.TheVariants as mount
-use Rattle.mj_world.specs.declared.answers.Said.{Said}
-use Rattle.mj_world.specs.declared.answers.Said.TheVariants as said
-use Rattle.mj_world.specs.declared.answers.Step.{Step}
-use Rattle.mj_world.specs.declared.answers.Step.TheVariants as step
-use Rattle.mj_world.specs.declared.answers.WorldRefusal.{WorldRefusal}
-use Rattle.mj_world.specs.declared.answers.WorldRefusal.TheVariants as refusal
+use Rattle.mj_texts.specs.declared.steps.MountStep.TheVariants as mount
+use Rattle.mj_texts.specs.declared.steps.Said.{Said}
+use Rattle.mj_texts.specs.declared.steps.Said.TheVariants as said
+use Rattle.mj_texts.specs.declared.steps.Step.{Step}
+use Rattle.mj_texts.specs.declared.steps.Step.TheVariants as step
+use Rattle.mj_world.specs.declared.refusal.WorldRefusal.{WorldRefusal}
+use Rattle.mj_world.specs.declared.refusal.WorldRefusal.TheVariants as refusal
 use Rattle.mj_world.specs.declared.world.Phase.{Phase}
 use Rattle.mj_world.specs.declared.world.Phase.TheVariants as phase
 use Rattle.mj_world.specs.declared.world.World.{World}
@@ -20,11 +20,11 @@ use Rattle.mj_world.specs.Made.{Made}
 use Rattle.mj_world.specs.Oldest.{oldest_sent}
 use Rattle.mj_world.specs.Refusals.{IsFault}
 use Rattle.mj_world.specs.World.{WorldSince, PhaseSince, HasFailed, StoreHas}
-use Rattle.mj_lines.specs.Line.{IsServed}
-use Rattle.mj_lines.specs.declared.line.Line.{Line}
-use Rattle.mj_lines.specs.declared.line.Line.TheVariants as line
-use Rattle.mj_lines.specs.declared.answer.Answer.{Answer}
-use Rattle.mj_lines.specs.declared.answer.Answer.TheVariants as answer
+use Rattle.mj_texts.specs.Line.{IsServed}
+use Rattle.mj_texts.specs.declared.line.Line.{Line}
+use Rattle.mj_texts.specs.declared.line.Line.TheVariants as line
+use Rattle.mj_texts.specs.declared.answer.Answer.{Answer}
+use Rattle.mj_texts.specs.declared.answer.Answer.TheVariants as answer
 use Rattle.mj_app.specs.Told.{said_told, refusal_told}
 use Rattle.mj_app.specs.Worlds.{Act, Worlds, Opens, world_after}
 use Rattle.mj_app.specs.LineActs.{Stage, AreNext, own_stage, first_stage, next_step, stage_after, stage_by, said_leads, is_told, carried, ready, waits_for}

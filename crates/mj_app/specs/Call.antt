@@ -10,8 +10,8 @@ use Rattle.mj_tree.specs.State.{new_state}
 use Rattle.mj_store.specs.Causes.{Listed}
 use Rattle.mj_store.specs.State.{StoreState}
 use Rattle.mj_layout.specs.Striping.{Striping}
-use Rattle.mj_lines.specs.Script.{script_of}
-use Rattle.mj_lines.specs.declared.line.Line.{Line}
+use Rattle.mj_texts.specs.Script.{script_of}
+use Rattle.mj_texts.specs.declared.line.Line.{Line}
 use Rattle.mj_app.specs.declared.read.ReadRefusal.{ReadRefusal}
 use Rattle.mj_app.specs.declared.read.ReadRefusal.TheVariants as read
 use Rattle.mj_app.specs.declared.status.Status.{Status}

@@ -20,14 +20,13 @@ use Rattle.mj_machine.specs.Legal.{AllAgree, step_of, text_from, after_turns}
 use Rattle.mj_rank.specs.Live.{LeavesFronts, Rested, StopsSafely}
 use Rattle.mj_world.specs.Live.{told, machine_after}
 use Rattle.mj_world.specs.declared.world.World.{World}
-use Rattle.mj_lines.specs.declared.line.Line.{Line}
+use Rattle.mj_texts.specs.declared.line.Line.{Line}
 use Rattle.mj_app.specs.declared.status.Status.{Status}
 use Rattle.mj_app.specs.declared.status.Status.TheVariants as status
 use Rattle.mj_app.specs.Status.{code_of}
 use Rattle.mj_app.specs.Call.{FilesState, OfScript}
-use Rattle.mj_app.specs.Run.{Worked, Works, lines_of, world_behind}
+use Rattle.mj_app.specs.Run.{Worked, Works, lines_of, turn_of, turns_of, world_behind}
 use Rattle.mj_model.specs.Took.{SinkState, TookAll, TookNone, FailedIn, TookOrFailed}
-use Rattle.mj_app.specs.Turns.{turn_of, turns_of}
 use Rattle.mj_app.specs.Words.{CommandValue, Play}
 use Rattle.mj_app.specs.Worlds.{Act, IsRestarted, Opens, HoldsStore, world_after}
 
@@ -110,7 +109,7 @@ module _ {S : Type 0} (state : S → Option StoreState) (faults : S → ℕ) (un
       pub rest : List Line
       pub lines_are : lines ≡ lines_of worked ++ line_in unsaid ++ rest
       pub agree : AllAgree m (turns_of worked)
-      pub text : Took (text_from 1 m (turns_of worked))
+      pub text : Took (text_from 1 (turns_of worked))
       -- each moment: the restart before the first line, the lines with texts, the one without
       pub restart : StopsSafely rank m (state before) (state store)
       pub stops : StopsAmong state rank first m worked

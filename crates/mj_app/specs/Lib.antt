@@ -10,7 +10,6 @@ pub mod Answers
 pub mod Run
 pub mod Formats
 pub mod Call
-pub mod Turns
 pub mod Headline
 pub mod ImageFile
 pub mod Image

@@ -5,8 +5,8 @@ use Rattle.std.specs.Prelude.{◌≡◌, ℕ, ◌<◌, ◌≤◌, List, length, 
 use Rattle.mj_base.specs.declared.limits.TheConstants.{MAX_FILE_BYTES}
 use Rattle.mj_base.specs.Counts.{Rose}
 use Rattle.mj_base.specs.Files.{FilesByName, IfTold}
-use Rattle.mj_lines.specs.Script.{script_of}
-use Rattle.mj_lines.specs.declared.line.Line.{Line}
+use Rattle.mj_texts.specs.Script.{script_of}
+use Rattle.mj_texts.specs.declared.line.Line.{Line}
 use Rattle.mj_model.specs.Chronicle.{chronicle_of}
 use Rattle.mj_model.specs.declared.chronicle.ChronicleLine.{ChronicleLine}
 use Rattle.mj_app.specs.declared.read.ReadRefusal.{ReadRefusal}

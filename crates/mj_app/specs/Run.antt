@@ -1,5 +1,5 @@
 -- What a script does and says as it runs.
---     Worked      a line, its acts, and what it was told
+--     Worked      a line, its acts, and what it was told, and both as a turn of the log machine
 --     AllWorked   lines were worked one after another over one list of worlds
 --     SaysAll     these are all lines of the script
 --     EndsAt      the line behind them ends it
@@ -10,10 +10,11 @@ use Rattle.mj_store.specs.Causes.{Listed}
 use Rattle.mj_store.specs.Moves.{Stays}
 use Rattle.mj_store.specs.State.{StoreState}
 use Rattle.mj_world.specs.declared.world.World.{World}
-use Rattle.mj_lines.specs.Text.{turn_text}
-use Rattle.mj_lines.specs.declared.line.Line.{Line}
-use Rattle.mj_lines.specs.declared.answer.Answer.{Answer}
-use Rattle.mj_lines.specs.declared.answer.Answer.TheVariants as answer
+use Rattle.mj_machine.specs.Legal.{Turn, text_from}
+use Rattle.mj_texts.specs.AnswerText.{turn_text, told_text}
+use Rattle.mj_texts.specs.declared.line.Line.{Line}
+use Rattle.mj_texts.specs.declared.answer.Answer.{Answer}
+use Rattle.mj_texts.specs.declared.answer.Answer.TheVariants as answer
 use Rattle.mj_app.specs.declared.status.Status.{Status}
 use Rattle.mj_app.specs.declared.status.Status.TheVariants as status
 use Rattle.mj_app.specs.Answers.{IsStoreFault, IsDamage, IsLast, GoesOn}
@@ -34,17 +35,14 @@ world_behind old (w ∷ ws) = world_behind (world_after old w.acts) ws
 abbrev pub lines_of : {S : Type 0} → List (Worked S) → List Line
 lines_of {S} ws = map (λ (w : Worked S). w.line) ws
 
+-- a line and its answer
+abbrev pub turn_of : {S : Type 0} → Worked S → Turn
+turn_of w = (w.line, w.told)
+
+abbrev pub turns_of : {S : Type 0} → List (Worked S) → List Turn
+turns_of {S} ws = map {B = Turn} (λ (w : Worked S). turn_of w) ws
+
 -- ---- texts
-
--- what the n-th line says
-abbrev pub said : ℕ → Option Answer → List ℕ
-said n None = []
-said n (Some a) = turn_text n a
-
--- what the lines from the n-th on say
-abbrev pub all_said : {S : Type 0} → ℕ → List (Worked S) → List ℕ
-all_said n [] = []
-all_said n (w ∷ ws) = said n w.told ++ all_said (n + 1) ws
 
 -- An answer ends the script, or the sink fails in it, or memory is wanted for its text.
 abbrev pub TurnEnds : Status → ℕ → Answer → SinkState → SinkState → Type 0
@@ -96,7 +94,7 @@ module _ {S : Type 0} (state : S → Option StoreState) (faults : S → ℕ) (un
 
   -- The n-th line goes on with its text, or ends the script.
   abbrev pub LineRuns : {T : Type 0} → ℕ → Line → World S → World S → SinkState → SinkState → Result T Status → Type 0
-  LineRuns n line old new before after (Ok _) = (told : Option Answer) × WorksTo line old told new × GoesOn line told × TookAll (said n told) before after
+  LineRuns n line old new before after (Ok _) = (told : Option Answer) × WorksTo line old told new × GoesOn line told × TookAll (told_text n told) before after
   LineRuns n line old new before after (Err s) = (told : Option Answer) × WorksTo line old told new × LineEnds s n told before after
 
   -- Each was worked in the world that the one before left, and the script went on after it.
@@ -110,7 +108,7 @@ module _ {S : Type 0} (state : S → Option StoreState) (faults : S → ℕ) (un
     pub lines_are : lines ≡ lines_of worked
     pub works : AllWorked first worked
     pub last_is : last ≡ world_behind first worked
-    pub text : TookAll (all_said 1 worked) old new
+    pub text : TookAll (text_from 1 (turns_of worked)) old new
 
   -- So it is with the first lines, and the one behind them ends the run with this status.
   pub record EndsAt (s : Status) (lines : List Line) (old new : SinkState) (first last : World S) : Type 0 where
@@ -122,7 +120,7 @@ module _ {S : Type 0} (state : S → Option StoreState) (faults : S → ℕ) (un
     pub ends_in : Works (world_behind first worked) ending
     pub last_is : last ≡ world_after (world_behind first worked) ending.acts
     pub middle : SinkState
-    pub text : TookAll (all_said 1 worked) old middle
+    pub text : TookAll (text_from 1 (turns_of worked)) old middle
     pub later : old.faults ≤ middle.faults
     pub ends : LineEnds s (length worked + 1) ending.told middle new
 

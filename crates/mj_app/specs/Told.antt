@@ -6,14 +6,14 @@ use Rattle.mj_rank.specs.declared.refusal.RankRefusal.{RankRefusal}
 use Rattle.mj_rank.specs.declared.refusal.RankRefusal.TheVariants as rank
 use Rattle.mj_rank.specs.declared.refusal.MountRefusal.{MountRefusal}
 use Rattle.mj_rank.specs.declared.refusal.MountRefusal.TheVariants as mount
-use Rattle.mj_world.specs.declared.answers.Said.{Said}
-use Rattle.mj_world.specs.declared.answers.Said.TheVariants as said
-use Rattle.mj_world.specs.declared.answers.Step.{Step}
-use Rattle.mj_world.specs.declared.answers.Step.TheVariants as step
-use Rattle.mj_world.specs.declared.answers.WorldRefusal.{WorldRefusal}
-use Rattle.mj_world.specs.declared.answers.WorldRefusal.TheVariants as world
-use Rattle.mj_lines.specs.declared.answer.Answer.{Answer}
-use Rattle.mj_lines.specs.declared.answer.Answer.TheVariants as answer
+use Rattle.mj_texts.specs.declared.steps.Said.{Said}
+use Rattle.mj_texts.specs.declared.steps.Said.TheVariants as said
+use Rattle.mj_texts.specs.declared.steps.Step.{Step}
+use Rattle.mj_texts.specs.declared.steps.Step.TheVariants as step
+use Rattle.mj_world.specs.declared.refusal.WorldRefusal.{WorldRefusal}
+use Rattle.mj_world.specs.declared.refusal.WorldRefusal.TheVariants as world
+use Rattle.mj_texts.specs.declared.answer.Answer.{Answer}
+use Rattle.mj_texts.specs.declared.answer.Answer.TheVariants as answer
 
 abbrev pub applied_told : Step → Option ℕ → Option Answer
 applied_told (step.Apply name) op = Some (answer.Applied name op)

@@ -7,9 +7,9 @@ use Rattle.std.specs.Prelude.{◌≡◌, ◌≤◌, ℕ, List, [], ◌∷◌, Op
 use Rattle.mj_store.specs.Causes.{Listed}
 use Rattle.mj_store.specs.Moves.{Restarts}
 use Rattle.mj_store.specs.State.{StoreState}
-use Rattle.mj_world.specs.declared.answers.Said.{Said}
-use Rattle.mj_world.specs.declared.answers.Step.{Step}
-use Rattle.mj_world.specs.declared.answers.WorldRefusal.{WorldRefusal}
+use Rattle.mj_texts.specs.declared.steps.Said.{Said}
+use Rattle.mj_texts.specs.declared.steps.Step.{Step}
+use Rattle.mj_world.specs.declared.refusal.WorldRefusal.{WorldRefusal}
 use Rattle.mj_world.specs.declared.world.Phase.TheVariants.{Stopped}
 use Rattle.mj_world.specs.declared.world.World.{World}
 use Rattle.mj_world.specs.Made.{Made}

@@ -2,11 +2,11 @@
 
 ghost use Rattle.std.specs.Prelude.{◌≡◌, Some, None, IfOk, OnErr};
 ghost use Rattle.mj_world.specs.Steps.{IsAnswerTo};
-ghost use Rattle.mj_lines.specs.Line.{IsServed};
+ghost use Rattle.mj_texts.specs.Line.{IsServed};
 ghost use Rattle.mj_app.specs.Told.{said_told, refusal_told, rank_told, mount_told};
 
-use mj_lines::{Answer, Line};
 use mj_rank::{MountRefusal, RankRefusal};
+use mj_texts::{Answer, Line};
 use mj_world::{Said, Step, WorldRefusal};
 use std::alloc::AllocError;
 

@@ -3,12 +3,13 @@
 ghost use Rattle.std.specs.Prelude.{◌≡◌, ◌≤◌, ◌↔◌, None, Some};
 ghost use Rattle.mj_model.specs.Took.{sink_state};
 ghost use Rattle.mj_app.specs.Say.{HasFixedText};
-ghost use Rattle.mj_app.specs.Call.{files_state, status_of, CallSays, EndSays, IsExact, PlayCall, RefusalEnds};
+ghost use Rattle.mj_app.specs.Call.{files_state, status_of, CallSays, EndSays, IsExact, RefusalEnds};
 ghost use Rattle.mj_app.specs.Headline.{HasHeadline, HasFirstHeadline};
-ghost use Rattle.mj_app.specs.Words.{command_of, Play as play_value};
+ghost use Rattle.mj_app.specs.Status.{code_of};
+ghost use Rattle.mj_app.specs.Words.{command_of};
 ghost use Rattle.mj_app.specs.WordsRead.{command_value};
 
-use crate::chronicle::model_call;
+use crate::chronicle::answer_chronicle;
 use crate::formatting::format_store;
 use crate::play::play;
 use crate::read::{ReadRefusal, read_lines};
@@ -36,7 +37,10 @@ pub fn mdjournal_call<S: ObjectStore, F: Files, K: Sink>(
     ensures later { F.faults files.old ≤ F.faults files.new }
 {
     match read_words(words) {
-        Some(command) => carry_out(alloc, command, files, store, out),
+        Some(command) => {
+            let (status, store) = carry_out(alloc, command, files, store, out);
+            (status.code(), store)
+        }
         None => {
             let status = refuse(alloc, ReadRefusal::Words, out);
             (status.code(), store)
@@ -50,39 +54,21 @@ fn carry_out<S: ObjectStore, F: Files, K: Sink>(
     files: &mut F,
     store: S,
     out: &mut K,
-) -> (u8, S)
-    ensures served { result.0 ≡ 2 → ⊥ }
-    ensures says { CallSays S.state S.faults S.unreported (Some (command_value command.entry)) (files_state F.told F.faults files.old) (files_state F.told F.faults files.new) store result.1 (sink_state K.taken K.faults out.old) (sink_state K.taken K.faults out.new) result.0 }
-    ensures headline { HasHeadline S.state S.faults S.unreported (Some (command_value command.entry)) (files_state F.told F.faults files.old) store result.1 (sink_state K.taken K.faults out.old) (sink_state K.taken K.faults out.new) result.0 }
-    ensures first { HasFirstHeadline S.state S.faults S.unreported (Some (command_value command.entry)) (files_state F.told F.faults files.old) store result.1 (sink_state K.taken K.faults out.old) (sink_state K.taken K.faults out.new) result.0 }
+) -> (Status, S)
+    ensures served { code_of result.0 ≡ 2 → ⊥ }
+    ensures says { CallSays S.state S.faults S.unreported (Some (command_value command.entry)) (files_state F.told F.faults files.old) (files_state F.told F.faults files.new) store result.1 (sink_state K.taken K.faults out.old) (sink_state K.taken K.faults out.new) (code_of result.0) }
+    ensures headline { HasHeadline S.state S.faults S.unreported (Some (command_value command.entry)) (files_state F.told F.faults files.old) store result.1 (sink_state K.taken K.faults out.old) (sink_state K.taken K.faults out.new) (code_of result.0) }
+    ensures first { HasFirstHeadline S.state S.faults S.unreported (Some (command_value command.entry)) (files_state F.told F.faults files.old) store result.1 (sink_state K.taken K.faults out.old) (sink_state K.taken K.faults out.new) (code_of result.0) }
     ensures unwritten { F.told files.new ≡ F.told files.old }
     ensures later { F.faults files.old ≤ F.faults files.new }
 {
     match command {
         Command::Format { rank, layout } => format_store(alloc, rank, layout, store, out),
-        Command::Play { rank, script } => play_call(alloc, rank, script, files, store, out),
+        Command::Play { rank, script } => play_script(alloc, rank, script, files, store, out),
         Command::Model { rank, chronicle } => {
-            model_call(alloc, rank, chronicle, files, store, out)
+            answer_chronicle(alloc, rank, chronicle, files, store, out)
         }
     }
-}
-
-fn play_call<S: ObjectStore, F: Files, K: Sink>(
-    alloc: Global,
-    rank: RankNo,
-    script: &str,
-    files: &mut F,
-    store: S,
-    out: &mut K,
-) -> (u8, S)
-    ensures says { PlayCall S.state S.faults S.unreported rank script.now (files_state F.told F.faults files.old) (files_state F.told F.faults files.new) store result.1 (sink_state K.taken K.faults out.old) (sink_state K.taken K.faults out.new) result.0 }
-    ensures headline { HasHeadline S.state S.faults S.unreported (Some (play_value rank script.now)) (files_state F.told F.faults files.old) store result.1 (sink_state K.taken K.faults out.old) (sink_state K.taken K.faults out.new) result.0 }
-    ensures first { HasFirstHeadline S.state S.faults S.unreported (Some (play_value rank script.now)) (files_state F.told F.faults files.old) store result.1 (sink_state K.taken K.faults out.old) (sink_state K.taken K.faults out.new) result.0 }
-    ensures unwritten { F.told files.new ≡ F.told files.old }
-    ensures later { F.faults files.old ≤ F.faults files.new }
-{
-    let (status, store) = play_script(alloc, rank, script, files, store, out);
-    (status.code(), store)
 }
 
 fn play_script<S: ObjectStore, F: Files, K: Sink>(

@@ -3,7 +3,7 @@
 ghost use Rattle.std.specs.Prelude.{◌≡◌, ◌≤◌};
 ghost use Rattle.mj_model.specs.Chronicle.{chronicle_of};
 ghost use Rattle.mj_model.specs.Took.{sink_state};
-ghost use Rattle.mj_app.specs.Call.{files_state, model_status, ModelWork, ModelEnds, ModelCall, TellsExactly};
+ghost use Rattle.mj_app.specs.Call.{files_state, model_status, ModelWork, ModelEnds, TellsExactly};
 
 use crate::call::refuse;
 use crate::play::fail_to_start;
@@ -16,23 +16,7 @@ use std::alloc::Global;
 
 /// Answers the requests of the chronicle in the file of this name by the plain tree of a new rank, and prints the replies, up to the
 /// first that differs from the one that was given. The store is only restarted.
-pub fn model_call<S: ObjectStore, F: Files, K: Sink>(
-    alloc: Global,
-    rank: RankNo,
-    name: &str,
-    files: &mut F,
-    store: S,
-    out: &mut K,
-) -> (u8, S)
-    ensures says { ModelCall S.state S.faults S.unreported rank name.now (files_state F.told F.faults files.old) (files_state F.told F.faults files.new) store result.1 (sink_state K.taken K.faults out.old) (sink_state K.taken K.faults out.new) result.0 }
-    ensures unwritten { F.told files.new ≡ F.told files.old }
-    ensures later { F.faults files.old ≤ F.faults files.new }
-{
-    let (status, store) = answer_file(alloc, rank, name, files, store, out);
-    (status.code(), store)
-}
-
-fn answer_file<S: ObjectStore, F: Files, K: Sink>(
+pub fn answer_chronicle<S: ObjectStore, F: Files, K: Sink>(
     alloc: Global,
     rank: RankNo,
     name: &str,

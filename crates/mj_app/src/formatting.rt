@@ -3,6 +3,7 @@
 ghost use Rattle.std.specs.Prelude.{◌≡◌, Some};
 ghost use Rattle.mj_model.specs.Took.{sink_state};
 ghost use Rattle.mj_app.specs.Formats.{FormatWork, FormatEnds, FormatCall, cut_status, format_status, why_not};
+ghost use Rattle.mj_app.specs.Status.{code_of};
 
 use crate::say::{Unsaid, say_formatted, say_unformatted};
 use crate::status::Status;
@@ -12,19 +13,19 @@ use mj_layout::Layout;
 use mj_store::ObjectStore;
 use std::alloc::Global;
 
-/// Formats a store that is first restarted, prints what came of it, and answers the code of the call.
+/// Formats a store that is first restarted, and prints what came of it.
 pub fn format_store<S: ObjectStore, K: Sink>(
     alloc: Global,
     rank: RankNo,
     layout: Layout,
     mut store: S,
     out: &mut K,
-) -> (u8, S)
-    ensures { FormatCall S.state S.faults S.unreported rank layout store result.1 (sink_state K.taken K.faults out.old) (sink_state K.taken K.faults out.new) result.0 }
+) -> (Status, S)
+    ensures { FormatCall S.state S.faults S.unreported rank layout store result.1 (sink_state K.taken K.faults out.old) (sink_state K.taken K.faults out.new) (code_of result.0) }
 {
     let outcome = restart_and_format(alloc, rank, layout, &mut store);
     let status = tell(alloc, rank, layout, outcome, out);
-    (status.code(), store)
+    (status, store)
 }
 
 fn restart_and_format<S: ObjectStore>(

@@ -2,7 +2,7 @@
 
 ghost use Rattle.std.specs.Prelude.{◌≡◌, ◌≤◌, IfOk};
 ghost use Rattle.mj_world.specs.World.{WorldSince};
-ghost use Rattle.mj_lines.specs.Line.{IsServed};
+ghost use Rattle.mj_texts.specs.Line.{IsServed};
 ghost use Rattle.mj_app.specs.Answers.{IsTold, last_status};
 ghost use Rattle.mj_model.specs.Took.{sink_state};
 ghost use Rattle.mj_app.specs.Run.{TurnSays, WorksTo, LineRuns, answer_in, told_in};
@@ -12,8 +12,8 @@ use crate::mount::mount;
 use crate::say::{Unsaid, say_turn};
 use crate::status::Status;
 use mj_base::Sink;
-use mj_lines::{Answer, Line};
 use mj_store::ObjectStore;
+use mj_texts::{Answer, Line};
 use mj_world::{Step, World};
 use std::alloc::{AllocError, Global};
 

@@ -1,7 +1,7 @@
 //! The run of a script.
 
 ghost use Rattle.std.specs.Prelude.{◌≡◌, ◌≤◌, [], All};
-ghost use Rattle.mj_lines.specs.Line.{IsServed};
+ghost use Rattle.mj_texts.specs.Line.{IsServed};
 ghost use Rattle.mj_model.specs.Took.{sink_state};
 ghost use Rattle.mj_app.specs.Run.{StartEnds, RunSays, PlaySays};
 ghost use Rattle.mj_app.specs.Worlds.{Over};
@@ -9,8 +9,8 @@ ghost use Rattle.mj_app.specs.Worlds.{Over};
 use crate::line::{run_line, say_answer};
 use crate::status::Status;
 use mj_base::{RankNo, Sink};
-use mj_lines::{Answer, Line};
 use mj_store::ObjectStore;
+use mj_texts::{Answer, Line};
 use mj_world::World;
 use std::alloc::Global;
 

@@ -1,12 +1,12 @@
 //! The file of lines that a call is to work.
 
 ghost use Rattle.std.specs.Prelude.{◌≡◌, ◌≤◌, All, IfOk, IfErr};
-ghost use Rattle.mj_lines.specs.Line.{IsServed};
+ghost use Rattle.mj_texts.specs.Line.{IsServed};
 ghost use Rattle.mj_app.specs.Read.{Named, IsFileRefusal, IsScript, IsReadRefusal, IsChronicle, IsUnreadChronicle};
 
 use mj_base::{FileRefusal, Files};
-use mj_lines::{Line, ScriptRefusal, read_script};
 use mj_model::{ChronicleLine, ChronicleRefusal, read_chronicle};
+use mj_texts::{Line, ScriptRefusal, read_script};
 use std::alloc::Global;
 
 /// Why a call does nothing.

@@ -1,7 +1,7 @@
 //! What a call prints.
 
 ghost use Rattle.std.specs.Prelude.{◌≡◌, ◌++◌, ◌∷◌, [], ◌≤◌, IsErrOf, OnOk};
-ghost use Rattle.mj_lines.specs.Text.{turn_text};
+ghost use Rattle.mj_texts.specs.AnswerText.{turn_text};
 ghost use Rattle.mj_texts.specs.Text.{numbered};
 ghost use Rattle.mj_model.specs.Took.{sink_state};
 ghost use Rattle.mj_app.specs.Say.{refusal_text, image_text, formatted_text, unformatted_text, Prints, HasFixedText};
@@ -11,8 +11,7 @@ use mj_base::{RankNo, Sink, put_all};
 use mj_format::FormatRefusal;
 use mj_image::ImageRefusal;
 use mj_layout::Layout;
-use mj_lines::{Answer, append_turn};
-use mj_texts::append_numbers;
+use mj_texts::{Answer, append_numbers, append_turn};
 use std::alloc::Global;
 
 /// Room for the line of a request that is answered, which needs no more but where names are listed.

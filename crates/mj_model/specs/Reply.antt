@@ -1,5 +1,5 @@
 -- Which words are those of a reply.
-use Rattle.std.specs.Prelude.{ℕ, ◌-◌, ◌^◌, Bool, true, false, ◌&&◌, ◌||◌, ◌==◌, List, [], ◌∷◌, length, codes, if◌then◌else◌, Option, None, Some, is_some}
+use Rattle.std.specs.Prelude.{ℕ, ◌-◌, ◌^◌, Bool, true, false, ◌||◌, ◌==◌, List, [], ◌∷◌, length, codes, if◌then◌else◌, Option, None, Some, is_some}
 use Rattle.std.specs.List.{list_all}
 use Rattle.mj_base.specs.InOrder.{same_bytes}
 use Rattle.mj_base.specs.Name.{name_refusal}

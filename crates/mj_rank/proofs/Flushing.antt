@@ -11,7 +11,7 @@ use Rattle.mj_journaler.specs.Keeps.{MaySend}
 use Rattle.mj_journaler.specs.Calls.{flush_of, offer_op, offered, taken, sent_on}
 use Rattle.mj_journaler.specs.declared.sent.Offer.{Offer}
 use Rattle.mj_journaler.specs.declared.sent.Offer.TheVariants.{Flush}
-use Rattle.mj_rank.specs.declared.answers.Span.{Span}
+use Rattle.mj_texts.specs.declared.steps.Span.{Span}
 use Rattle.mj_rank.specs.declared.rank.Rank.{Rank}
 use Rattle.mj_rank.specs.Log.{log_value, span_to}
 use Rattle.mj_rank.specs.Request.{value_of}

@@ -33,7 +33,7 @@ use Rattle.mj_journaler.specs.Journal.{Journal, IsNew}
 use Rattle.mj_journaler.specs.Keeps.{MaySend}
 use Rattle.mj_journaler.specs.Calls.{append_refusal, append_both_refusal, offer_op, taken, acknowledged}
 use Rattle.mj_journaler.proofs.Kept.{end_more}
-use Rattle.mj_rank.specs.declared.answers.Fault.{Fault}
+use Rattle.mj_rank.specs.declared.refusal.Fault.{Fault}
 use Rattle.mj_rank.specs.declared.rank.Rank.{Rank}
 use Rattle.mj_rank.specs.Log.{log_value, entry_end, with_entry}
 use Rattle.mj_rank.specs.Mount.{subtree_map}

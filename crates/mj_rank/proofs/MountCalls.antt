@@ -20,8 +20,8 @@ use Rattle.mj_cache.specs.Cached.{early_table}
 use Rattle.mj_machine.specs.Machine.{LogMachine, stopped}
 use Rattle.mj_machine.specs.CrashSafe.{IsFrontState}
 use Rattle.mj_facts.specs.Calls.{cut_op}
-use Rattle.mj_rank.specs.declared.answers.MountStep.{MountStep}
-use Rattle.mj_rank.specs.declared.answers.MountStep.TheVariants as step
+use Rattle.mj_texts.specs.declared.steps.MountStep.{MountStep}
+use Rattle.mj_texts.specs.declared.steps.MountStep.TheVariants as step
 use Rattle.mj_rank.specs.declared.cutting.Cut.{Cut}
 use Rattle.mj_rank.specs.declared.found.Found.{Found}
 use Rattle.mj_rank.specs.declared.mounting.Mounting as mounting

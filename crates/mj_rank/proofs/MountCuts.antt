@@ -5,8 +5,8 @@ use Rattle.std.proofs.lemmas.Result.{err_from_is_err_and}
 use Rattle.mj_store.specs.declared.act.ObjectOp.{ObjectOp}
 use Rattle.mj_store.specs.State.{StoreState}
 use Rattle.mj_store.specs.Moves.{Stays, Reaps}
-use Rattle.mj_rank.specs.declared.answers.MountStep.{MountStep}
-use Rattle.mj_rank.specs.declared.answers.MountStep.TheVariants as step
+use Rattle.mj_texts.specs.declared.steps.MountStep.{MountStep}
+use Rattle.mj_texts.specs.declared.steps.MountStep.TheVariants as step
 use Rattle.mj_rank.specs.declared.mounting.Mounting as mounting
 use Rattle.mj_rank.specs.declared.mounting.Stage.{Stage}
 use Rattle.mj_rank.specs.declared.mounting.Stage.TheVariants.{Announcing, Announced, Cutting, Opened, Ready}

@@ -10,8 +10,8 @@ use Rattle.mj_store.specs.Causes.{In, Listed, Reports, AllBelow, with_listed}
 use Rattle.mj_store.specs.Events.{Tells}
 use Rattle.mj_store.proofs.Paths.{stays_keeps}
 use Rattle.mj_layout.specs.declared.Header.{Header}
-use Rattle.mj_rank.specs.declared.answers.MountStep.{MountStep}
-use Rattle.mj_rank.specs.declared.answers.MountStep.TheVariants as step
+use Rattle.mj_texts.specs.declared.steps.MountStep.{MountStep}
+use Rattle.mj_texts.specs.declared.steps.MountStep.TheVariants as step
 use Rattle.mj_rank.specs.declared.cutting.Cut.{Cut}
 use Rattle.mj_rank.specs.declared.mounting.Mounting as mounting
 use Rattle.mj_rank.specs.declared.mounting.Stage.{Stage}

@@ -12,7 +12,7 @@ use Rattle.mj_tree.specs.Answer.{answer, changes}
 use Rattle.mj_cache.specs.Cached.{early_table, early_tree}
 use Rattle.mj_delta.specs.Steps.{GivesTree}
 use Rattle.mj_machine.specs.Machine.{LogMachine, early_state, reply_to}
-use Rattle.mj_rank.specs.declared.answers.Early.{Early}
+use Rattle.mj_texts.specs.declared.steps.Early.{Early}
 use Rattle.mj_rank.specs.declared.rank.Rank.{Rank}
 use Rattle.mj_rank.specs.Log.{log_value}
 use Rattle.mj_rank.specs.Live.{RankLives, after_early}

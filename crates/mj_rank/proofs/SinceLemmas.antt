@@ -20,7 +20,7 @@ use Rattle.mj_store.proofs.Numbers.{in_append}
 use Rattle.mj_rank.specs.Log.{log_value}
 use Rattle.mj_rank.specs.Since.{RankSince, MountSince, AllListed, AreListed, AreOnce, OutIn, numbers_of}
 use Rattle.mj_rank.specs.declared.mounting.Mounting.{Mounting}
-use Rattle.mj_rank.specs.declared.answers.Fault.{Fault}
+use Rattle.mj_rank.specs.declared.refusal.Fault.{Fault}
 use Rattle.mj_rank.specs.declared.rank.Rank.{Rank}
 use Rattle.mj_rank.proofs.Out.{listed_same}
 

@@ -32,9 +32,9 @@ use Rattle.mj_facts.specs.Calls.{IsBuffer, IsNear, entry_ends}
 use Rattle.mj_facts.specs.Serves.{Serves}
 use Rattle.mj_facts.specs.Few.{HoldsOnly}
 use Rattle.mj_facts.specs.Elsewhere.{NothingCommitted, keys_of}
-use Rattle.mj_rank.specs.declared.answers.Early.{Early}
-use Rattle.mj_rank.specs.declared.answers.Reaped.{Reaped}
-use Rattle.mj_rank.specs.declared.answers.Reaped.TheVariants.{One, Nothing}
+use Rattle.mj_texts.specs.declared.steps.Early.{Early}
+use Rattle.mj_texts.specs.declared.steps.Reaped.{Reaped}
+use Rattle.mj_texts.specs.declared.steps.Reaped.TheVariants.{One, Nothing}
 use Rattle.mj_rank.specs.declared.mounting.Mounting as mounting
 use Rattle.mj_rank.specs.declared.mounting.Stage.{Stage}
 use Rattle.mj_rank.specs.declared.mounting.Stage.TheVariants.{Announcing, Announced, Cutting, Opened, Ready}

@@ -6,7 +6,7 @@ use Rattle.mj_journaler.specs.Calls.{appended, flush_of}
 use Rattle.mj_journaler.specs.declared.sent.Sent.{Sent}
 use Rattle.mj_journaler.specs.declared.sent.Offer.{Offer}
 use Rattle.mj_journaler.specs.declared.sent.Offer.TheVariants.{Flush}
-use Rattle.mj_rank.specs.declared.answers.Span.{Span}
+use Rattle.mj_texts.specs.declared.steps.Span.{Span}
 
 -- neither the write that was given and is not sent, nor the room that was made
 abbrev pub log_value : Journal → Journal

@@ -19,8 +19,8 @@ use Rattle.mj_rank.specs.declared.cutting.Cut.{Cut}
 use Rattle.mj_rank.specs.declared.mounting.Mounting as mounting
 use Rattle.mj_rank.specs.declared.mounting.Stage.{Stage}
 use Rattle.mj_rank.specs.declared.mounting.Stage.TheVariants.{Announcing, Announced, Cutting, Opened, Ready}
-use Rattle.mj_rank.specs.declared.answers.MountStep.{MountStep}
-use Rattle.mj_rank.specs.declared.answers.MountStep.TheVariants as step
+use Rattle.mj_texts.specs.declared.steps.MountStep.{MountStep}
+use Rattle.mj_texts.specs.declared.steps.MountStep.TheVariants as step
 use Rattle.mj_rank.specs.declared.refusal.MountRefusal.{MountRefusal}
 use Rattle.mj_rank.specs.Cutting.{near_from, near_end, Passes, Finds, sent_cuts, without_cut}
 use Rattle.mj_rank.specs.Finding.{IsFound, IsRefused}

@@ -6,7 +6,7 @@ use Rattle.mj_store.specs.declared.answer.SubmitRefusal.{SubmitRefusal}
 use Rattle.mj_store.specs.declared.answer.SubmitRefusal.TheVariants as submit
 use Rattle.mj_replay.specs.declared.refusal.JournalRefusal.{JournalRefusal}
 use Rattle.mj_replay.specs.declared.refusal.JournalRefusal.TheVariants as journal
-use Rattle.mj_rank.specs.declared.answers.Fault.{Fault}
+use Rattle.mj_rank.specs.declared.refusal.Fault.{Fault}
 use Rattle.mj_journaler.specs.declared.AppendRefusal.{AppendRefusal}
 use Rattle.mj_journaler.specs.declared.AppendRefusal.TheVariants.{Full, Spent}
 use Rattle.mj_rank.specs.declared.refusal.RankRefusal.{RankRefusal}

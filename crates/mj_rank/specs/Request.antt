@@ -17,8 +17,8 @@ use Rattle.mj_judge.specs.Own.{own_damage}
 use Rattle.mj_delta.specs.EventFor.{event_for}
 use Rattle.mj_chronicle.specs.Room.{has_room}
 use Rattle.mj_chronicle.specs.Ends.{last_end}
-use Rattle.mj_rank.specs.declared.answers.Early.{Early}
-use Rattle.mj_rank.specs.declared.answers.Fault.{Fault}
+use Rattle.mj_texts.specs.declared.steps.Early.{Early}
+use Rattle.mj_rank.specs.declared.refusal.Fault.{Fault}
 use Rattle.mj_rank.specs.declared.rank.Rank.{Rank}
 use Rattle.mj_rank.specs.declared.refusal.RankRefusal.{RankRefusal}
 use Rattle.mj_rank.specs.declared.refusal.RankRefusal.TheVariants as refusal

@@ -3,9 +3,9 @@ use Rattle.std.specs.Prelude.{◌≡◌, ℕ, true, Option, None, Some}
 use Rattle.mj_store.specs.declared.answer.Ack.{Ack}
 use Rattle.mj_store.specs.State.{StoreState}
 use Rattle.mj_store.specs.Moves.{Submits}
-use Rattle.mj_rank.specs.declared.answers.Span.{Span}
-use Rattle.mj_rank.specs.declared.answers.Reaped.{Reaped}
-use Rattle.mj_rank.specs.declared.answers.Reaped.TheVariants.{One, Nothing}
+use Rattle.mj_texts.specs.declared.steps.Span.{Span}
+use Rattle.mj_texts.specs.declared.steps.Reaped.{Reaped}
+use Rattle.mj_texts.specs.declared.steps.Reaped.TheVariants.{One, Nothing}
 use Rattle.mj_rank.specs.declared.rank.Rank.{Rank}
 use Rattle.mj_cache.specs.Cached.{made_safe}
 use Rattle.mj_journaler.specs.Journal.{Journal}

@@ -4,8 +4,8 @@ use Rattle.mj_base.specs.declared.object.ObjectName.{ObjectName}
 use Rattle.mj_base.specs.Counts.{Rose}
 use Rattle.mj_store.specs.Causes.{In, Listed, Counted}
 use Rattle.mj_journaler.specs.Journal.{Journal, HasNumber}
-use Rattle.mj_rank.specs.declared.answers.MountStep.{MountStep}
-use Rattle.mj_rank.specs.declared.answers.MountStep.TheVariants as step
+use Rattle.mj_texts.specs.declared.steps.MountStep.{MountStep}
+use Rattle.mj_texts.specs.declared.steps.MountStep.TheVariants as step
 use Rattle.mj_rank.specs.declared.cutting.Cut.{Cut}
 use Rattle.mj_rank.specs.declared.mounting.Mounting.{Mounting}
 use Rattle.mj_rank.specs.declared.mounting.Stage.{Stage}

@@ -6,7 +6,6 @@ ghost use Rattle.mj_base.specs.Counts.{Rose};
 ghost use Rattle.mj_store.specs.Causes.{Counted};
 ghost use Rattle.mj_rank.specs.Refusals.{IsStoreFault};
 
-use crate::answers::MountStep;
 use crate::cutting::{Cuts, look};
 use crate::finding::read_found;
 use crate::found::{FirstLog, Found};
@@ -15,6 +14,7 @@ use crate::refusal::MountRefusal;
 use mj_base::{Items, ObjectName, OpNo, RankNo};
 use mj_layout::{Header, Phase, journal_object};
 use mj_store::{Ack, ObjectAct, ObjectOp, ObjectStore, StoreFault};
+use mj_texts::MountStep;
 use std::alloc::Global;
 
 /// How far a mount has come.

@@ -6,9 +6,8 @@ ghost use Rattle.mj_base.specs.Counts.{Rose};
 ghost use Rattle.mj_tables.specs.Layered.{EndBelow};
 ghost use Rattle.mj_journaler.specs.Journal.{end_of};
 
-use crate::answers::{Early, Fault, Reaped, Span};
 use crate::entries::{Entries, events_after};
-use crate::refusal::{RankRefusal, Sealed};
+use crate::refusal::{Fault, RankRefusal, Sealed};
 use mj_base::{ObjectName, OpNo, RankNo};
 use mj_cache::Cache;
 use mj_chronicle::Chronicle;
@@ -17,6 +16,7 @@ use mj_journaler::{Acked, Journaler};
 use mj_machine::ChronicleEntry;
 use mj_plan::{Planned, a_plan_is_projected, plan};
 use mj_store::{Ack, ObjectStore, StoreFault, SubmitRefusal};
+use mj_texts::{Early, Reaped, Span};
 use mj_tree::{ClientRequest, Reply};
 use std::alloc::{AllocError, Global};
 

@@ -3,12 +3,18 @@
 ghost use Rattle.std.specs.Prelude.{◌≡◌, Some};
 ghost use Rattle.mj_rank.specs.Refusals.{IsDown, SaysOfAppend};
 
-use crate::answers::Fault;
-use mj_base::Damage;
+use mj_base::{Damage, OpNo};
 use mj_journaler::AppendRefusal;
 use mj_replay::JournalRefusal;
 use mj_store::{ReadRefusal, StoreFault, SubmitRefusal};
 use std::alloc::AllocError;
+
+/// Why a rank is down: the operation that was not done, if one was, and the store's count of faults then.
+#[derive(Clone, Copy, Debug, PartialEq, Eq)]
+pub struct Fault {
+    pub op: Option<OpNo>,
+    pub faults: u64,
+}
 
 /// What only this crate makes, so that no refusal is made elsewhere.
 #[derive(Debug, Drop)]

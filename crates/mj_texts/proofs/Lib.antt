@@ -6,3 +6,5 @@ pub mod WordLemmas
 pub mod FieldLemmas
 pub mod RequestLemmas
 pub mod LinesLemmas
+pub mod LineLemmas
+pub mod DamageLemmas

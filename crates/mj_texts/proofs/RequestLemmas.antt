@@ -1,6 +1,5 @@
 -- The reader of requests gives each request on its spellings, and on nothing else.
-use Rattle.std.proofs.Common.{◌≡◌, ℕ, ◌-◌, ◌^◌, ◌<◌, true, List, [], ◌∷◌, ◌++◌, codes, decimal, Option, Some, None, Result, Ok, refl, sym, ap, subst, ◌∙◌, arith}
-use Rattle.mj_base.proofs.Codec.{and_true}
+use Rattle.std.proofs.Common.{◌≡◌, ℕ, ◌-◌, ◌^◌, ◌<◌, true, List, [], ◌∷◌, ◌++◌, codes, decimal, Option, Some, Result, Ok, refl, sym, ap, subst, ◌∙◌, arith}
 use Rattle.mj_base.proofs.NameLemmas.{target_refusal-none}
 use Rattle.mj_base.specs.InOrder.{same_bytes}
 use Rattle.mj_base.specs.Name.{escaped, is_path, path_text}

@@ -1,5 +1,5 @@
 -- Words one after another.
-use Rattle.std.proofs.Common.{◌≡◌, ℕ, ◌≤◌, List, [], ◌∷◌, ◌++◌, ◌==◌, length, get_or, drop, map, codes, decimal, replicate, ◌-◌, ◌^◌, false, arith, refl, sym, ap, ◌∙◌, append_assoc, append-nil}
+use Rattle.std.proofs.Common.{◌≡◌, ℕ, ◌≤◌, List, [], ◌∷◌, ◌++◌, length, get_or, drop, map, codes, decimal, replicate, ◌-◌, ◌^◌, false, arith, refl, sym, ap, ◌∙◌, append_assoc, append-nil}
 use Rattle.std.specs.List.{flat_map}
 use native.Mathlib.Nat.{sub-zero}
 use Rattle.std.specs.Fmt.{padded_integral, format_spec, char_count}

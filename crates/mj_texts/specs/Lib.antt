@@ -5,3 +5,9 @@ pub mod Request
 pub mod Text
 pub mod Spelling
 pub mod Lines
+pub mod Line
+pub mod LineSpelling
+pub mod Script
+pub mod DamageText
+pub mod AnswerText
+pub mod Answers

@@ -1,5 +1,5 @@
 -- Words as text, and the texts of replies.
-use Rattle.std.specs.Prelude.{ℕ, List, [], ◌∷◌, ◌++◌, map, codes}
+use Rattle.std.specs.Prelude.{ℕ, List, [], ◌∷◌, ◌++◌, map, codes, Option, None, Some}
 use Rattle.std.specs.Fmt.{decimal}
 use Rattle.mj_base.specs.Name.{escaped}
 use Rattle.mj_base.specs.ObjectName.{object_text}
@@ -8,6 +8,7 @@ use Rattle.mj_tree.specs.State.{attributes_of}
 use Rattle.mj_tree.specs.declared.request.Reply.{Reply}
 use Rattle.mj_tree.specs.declared.request.Reply.TheVariants as reply
 use Rattle.mj_tree.specs.Listing.{line, words, octal, attribute_words}
+use Rattle.mj_texts.specs.declared.steps.Early.{Early}
 use Rattle.mj_texts.specs.declared.text.Word.{Word}
 use Rattle.mj_texts.specs.declared.text.Word.TheVariants.{Text, Number, Object, Escaped, Mode}
 
@@ -37,6 +38,14 @@ reply_words (reply.Link target) = codes "target" ∷ escaped target ∷ []
 
 abbrev pub reply_text : Reply → List ℕ
 reply_text x = words (reply_words x)
+
+abbrev pub ends_words : Option ℕ → List (List ℕ)
+ends_words None = []
+ends_words (Some e) = codes "ends" ∷ decimal e ∷ []
+
+-- a reply, and where the request's event ends
+abbrev pub early_words : Early → List (List ℕ)
+early_words early = reply_words early.reply ++ ends_words early.ends_at
 
 -- a word and numbers
 abbrev pub numbered : List ℕ → List ℕ → List ℕ

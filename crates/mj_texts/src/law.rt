@@ -1,10 +1,13 @@
-//! The two directions of a request's words: each has its spellings, and is read from nothing else.
+//! The two directions of requests and lines: each has its spellings, and is read from nothing else.
 
 ghost use Rattle.std.specs.Prelude.{◌≡◌, ◌++◌, ℕ, List, Some, true};
 ghost use Rattle.mj_tree.specs.Request.{IsRequest};
 ghost use Rattle.mj_tree.specs.declared.request.ClientRequest.{ClientRequest};
+ghost use Rattle.mj_texts.specs.Line.{line_of};
+ghost use Rattle.mj_texts.specs.LineSpelling.{IsSpelling, InRange};
 ghost use Rattle.mj_texts.specs.Request.{request_of};
 ghost use Rattle.mj_texts.specs.Spelling.{SpellsRequest, RequestInRange, are_plain_words};
+ghost use Rattle.mj_texts.specs.declared.line.Line.{Line};
 
 use mj_base::{escapes_are_read_again, paths_are_read_again};
 
@@ -19,4 +22,13 @@ pub fn requests_are_read_from_their_spellings()
     // Of paths and of escapes the law is that of their readers.
     paths_are_read_again();
     escapes_are_read_again();
+}
+
+/// A text that stands for a line is one of its spellings, and each of its spellings stands for it.
+pub fn lines_are_read_from_their_spellings()
+    ensures takes { (text : List ℕ) (l : Line) → line_of text ≡ Some l → IsSpelling text l }
+    ensures again { (text : List ℕ) (l : Line) → InRange l → IsSpelling text l → line_of text ≡ Some l }
+{
+    // Of requests the law is that of their reader.
+    requests_are_read_from_their_spellings();
 }

@@ -3,10 +3,11 @@
 ghost use Rattle.std.specs.Prelude.{◌≡◌, ◌++◌, ◌∷◌, codes, map, OnOk};
 ghost use Rattle.std.specs.List.{flat_map};
 ghost use Rattle.mj_base.specs.Name.{escaped};
-ghost use Rattle.mj_tree.specs.Listing.{words, kind_word};
-ghost use Rattle.mj_texts.specs.Text.{reply_text, found_words};
+ghost use Rattle.mj_tree.specs.Listing.{line, words, kind_word};
+ghost use Rattle.mj_texts.specs.Text.{reply_text, found_words, early_words, ends_words};
 
-use crate::text::{Word, append_words};
+use crate::steps::Early;
+use crate::text::{Word, append_spaced, append_words};
 use mj_base::{InodeRecord, Kind, Name, escape};
 use mj_tree::Reply;
 use std::alloc::AllocError;
@@ -75,4 +76,23 @@ fn append_spaced_names(names: &[Name], out: &mut Vec<u8>) -> Result<(), AllocErr
         escape(name.as_slice(), out)?;
     }
     Ok(())
+}
+
+/// Appends the line of a reply, with the end of the request's event.
+pub(crate) fn append_early(early: &Early, out: &mut Vec<u8>) -> Result<(), AllocError>
+    ensures { OnOk result (out.new.items ≡ out.old.items ++ line (early_words early.now)) }
+{
+    append_reply(&early.reply, out)?;
+    append_ends(early.ends_at, out)?;
+    out.push(b'\n')?;
+    Ok(())
+}
+
+fn append_ends(ends_at: Option<u64>, out: &mut Vec<u8>) -> Result<(), AllocError>
+    ensures { OnOk result (out.new.items ≡ out.old.items ++ flat_map (λ y. 32 ∷ y) (ends_words ends_at)) }
+{
+    match ends_at {
+        Some(end) => append_spaced(&[Word::Text("ends"), Word::Number(end)], out),
+        None => Ok(()),
+    }
 }

@@ -1,4 +1,4 @@
-//! Tests of `mj_texts`, `mj_model` and `mj_lines`.
+//! Tests of `mj_texts` and `mj_model`.
 #![tactic(auto)]
 
 #[cfg(test)]

@@ -1,9 +1,9 @@
 // Scripts that are read and refused, and the texts of answers.
-use mj_lines::{Answer, Line, ScriptRefusal, append_turn, read_line, read_script};
 use mj_base::{ClientId, Damage, Ino, Items, ObjectName, OpNo};
-use mj_rank::{Early, Reaped, Span};
+use mj_texts::{
+    Answer, Early, Line, Reaped, ScriptRefusal, Span, Step, append_turn, read_line, read_script,
+};
 use mj_tree::Reply;
-use mj_world::Step;
 use std::test::Fail;
 
 #[test]

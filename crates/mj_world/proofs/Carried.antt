@@ -1,8 +1,8 @@
 -- How a mount ends.
 use Rattle.std.proofs.Common.{◌≡◌, Option, Ok, ap, subst, ◌∙◌}
 use Rattle.mj_store.specs.State.{StoreState}
-use Rattle.mj_rank.specs.declared.answers.MountStep.{MountStep}
-use Rattle.mj_rank.specs.declared.answers.MountStep.TheVariants.{Ready}
+use Rattle.mj_texts.specs.declared.steps.MountStep.{MountStep}
+use Rattle.mj_texts.specs.declared.steps.MountStep.TheVariants.{Ready}
 use Rattle.mj_rank.specs.declared.mounting.Mounting.{Mounting}
 use Rattle.mj_rank.specs.declared.rank.Rank.{Rank}
 use Rattle.mj_rank.specs.Mounts.{MountSteps, first_value}

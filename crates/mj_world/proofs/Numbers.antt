@@ -3,9 +3,9 @@ use Rattle.std.proofs.Common.{◌≡◌, Option, Some, None, refl, ap, ◌∙◌
 use Rattle.mj_event.specs.declared.Event.{Event}
 use Rattle.mj_tree.specs.declared.request.ClientRequest.{ClientRequest}
 use Rattle.mj_store.specs.State.{StoreState}
-use Rattle.mj_rank.specs.declared.answers.Reaped.{Reaped}
-use Rattle.mj_rank.specs.declared.answers.Reaped.TheVariants.{One, Nothing}
-use Rattle.mj_rank.specs.declared.answers.Span.{Span}
+use Rattle.mj_texts.specs.declared.steps.Reaped.{Reaped}
+use Rattle.mj_texts.specs.declared.steps.Reaped.TheVariants.{One, Nothing}
+use Rattle.mj_texts.specs.declared.steps.Span.{Span}
 use Rattle.mj_rank.specs.declared.mounting.Mounting.{Mounting}
 use Rattle.mj_rank.specs.declared.rank.Rank.{Rank}
 use Rattle.mj_rank.specs.Mounts.{KeepsFound, first_value}

@@ -2,9 +2,9 @@
 use Rattle.std.proofs.Common.{◌≡◌, ℕ, Option, Result, Err, refl}
 use Rattle.mj_store.specs.State.{StoreState}
 use Rattle.mj_rank.specs.declared.rank.Rank.{Rank}
-use Rattle.mj_world.specs.declared.answers.Said.{Said}
-use Rattle.mj_world.specs.declared.answers.WorldRefusal.{WorldRefusal}
-use Rattle.mj_world.specs.declared.answers.WorldRefusal.TheVariants as refusal
+use Rattle.mj_texts.specs.declared.steps.Said.{Said}
+use Rattle.mj_world.specs.declared.refusal.WorldRefusal.{WorldRefusal}
+use Rattle.mj_world.specs.declared.refusal.WorldRefusal.TheVariants as refusal
 use Rattle.mj_world.specs.declared.world.Phase.{Phase}
 use Rattle.mj_world.specs.declared.world.Phase.TheVariants as phase
 use Rattle.mj_world.specs.Phases.{of_serving, of_stopped, ByPhase}

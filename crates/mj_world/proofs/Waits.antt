@@ -9,7 +9,7 @@ use Rattle.mj_machine.specs.Machine.{LogMachine}
 use Rattle.mj_rank.specs.Flight.{HasCompleted}
 use Rattle.mj_rank.specs.Live.{MountLives}
 use Rattle.mj_rank.specs.Mounts.{AwaitsMore, oldest_of}
-use Rattle.mj_rank.specs.declared.answers.MountStep.TheVariants.{Waiting}
+use Rattle.mj_texts.specs.declared.steps.MountStep.TheVariants.{Waiting}
 use Rattle.mj_rank.specs.declared.mounting.Mounting.{Mounting}
 use Rattle.mj_rank.specs.declared.refusal.MountRefusal.{MountRefusal}
 use Rattle.mj_rank.proofs.MountLives.{mount_completes}
@@ -20,8 +20,8 @@ use Rattle.mj_world.specs.Phases.{of_mounting, ByPhase}
 use Rattle.mj_world.specs.Stored.{IsTried}
 use Rattle.mj_world.specs.Tells.{WhileMounting}
 use Rattle.mj_world.specs.Waits.{WaitsOnce}
-use Rattle.mj_world.specs.declared.answers.Said.{Said}
-use Rattle.mj_world.specs.declared.answers.Said.TheVariants as said
+use Rattle.mj_texts.specs.declared.steps.Said.{Said}
+use Rattle.mj_texts.specs.declared.steps.Said.TheVariants as said
 use Rattle.mj_world.specs.declared.world.Phase.{Phase}
 use Rattle.mj_world.specs.declared.world.Phase.TheVariants as phase
 

@@ -1,14 +1,16 @@
 -- What a request, the tree and the state are answered, and what they leave of the rank.
-use Rattle.std.specs.Prelude.{◌≡◌, false, true, None, Result, Ok, Err}
+use Rattle.std.specs.Prelude.{◌≡◌, Bool, false, true, None, Result, Ok, Err}
 use Rattle.mj_tree.specs.declared.request.ClientRequest.{ClientRequest}
 use Rattle.mj_tree.specs.Listing.{listing}
 use Rattle.mj_cache.specs.Cached.{early_tree}
 use Rattle.mj_rank.specs.declared.rank.Rank.{Rank}
 use Rattle.mj_rank.specs.Request as request
-use Rattle.mj_world.specs.declared.answers.Said.{Said}
-use Rattle.mj_world.specs.declared.answers.Said.TheVariants.{Asked, State, Tree}
-use Rattle.mj_world.specs.declared.answers.WorldRefusal.{WorldRefusal}
-use Rattle.mj_world.specs.declared.answers.WorldRefusal.TheVariants as refusal
+use Rattle.mj_texts.specs.declared.steps.Said.{Said}
+use Rattle.mj_texts.specs.declared.steps.Said.TheVariants.{Asked, State, Tree}
+use Rattle.mj_texts.specs.declared.steps.Step.{Step}
+use Rattle.mj_texts.specs.declared.steps.Step.TheVariants as step
+use Rattle.mj_world.specs.declared.refusal.WorldRefusal.{WorldRefusal}
+use Rattle.mj_world.specs.declared.refusal.WorldRefusal.TheVariants as refusal
 
 -- the rank is the one after the request, or as it was, over the same store
 abbrev pub Accepts : {S : Type 0} → ClientRequest → Rank S → Rank S → Type 0
@@ -24,14 +26,14 @@ Answers r old (Err (refusal.Rank e)) new = request.Says e (request.cause_of (req
 Answers r old (Err refusal.Memory) new = Keeps old new
 Answers r old result new = ⊥
 
--- the tree of all requests that were accepted
-abbrev pub Lists : {S : Type 0} → Rank S → Result Said WorldRefusal → Rank S → Type 0
-Lists old (Ok (Tree text)) new = (text ≡ listing (early_tree old.cache) false) × (new ≡ old)
-Lists old (Err refusal.Memory) new = new ≡ old
-Lists old result new = ⊥
+-- the step that lists the tree, or in full the state
+abbrev pub listing_step : Bool → Step
+listing_step false = step.Tree
+listing_step true = step.State
 
--- the same with the next inode and the sessions
-abbrev pub ListsFully : {S : Type 0} → Rank S → Result Said WorldRefusal → Rank S → Type 0
-ListsFully old (Ok (State text)) new = (text ≡ listing (early_tree old.cache) true) × (new ≡ old)
-ListsFully old (Err refusal.Memory) new = new ≡ old
-ListsFully old result new = ⊥
+-- The tree of all requests that were accepted, in full with the next inode and the sessions.
+abbrev pub Lists : {S : Type 0} → Bool → Rank S → Result Said WorldRefusal → Rank S → Type 0
+Lists false old (Ok (Tree text)) new = (text ≡ listing (early_tree old.cache) false) × (new ≡ old)
+Lists true old (Ok (State text)) new = (text ≡ listing (early_tree old.cache) true) × (new ≡ old)
+Lists full old (Err refusal.Memory) new = new ≡ old
+Lists full old result new = ⊥

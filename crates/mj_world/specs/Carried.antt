@@ -2,8 +2,8 @@
 use Rattle.std.specs.Prelude.{◌≡◌, ℕ, Option, None, Some, Result, Ok, Err, OnOk}
 use Rattle.mj_store.specs.State.{StoreState, contents}
 use Rattle.mj_store.specs.Moves.{Stays, Still}
-use Rattle.mj_rank.specs.declared.answers.MountStep.{MountStep}
-use Rattle.mj_rank.specs.declared.answers.MountStep.TheVariants.{Ready}
+use Rattle.mj_texts.specs.declared.steps.MountStep.{MountStep}
+use Rattle.mj_texts.specs.declared.steps.MountStep.TheVariants.{Ready}
 use Rattle.mj_rank.specs.declared.mounting.Mounting as mounting
 use Rattle.mj_rank.specs.declared.mounting.Stage.TheVariants as stage
 use Rattle.mj_rank.specs.declared.rank.Rank.{Rank}
@@ -12,10 +12,10 @@ use Rattle.mj_rank.specs.declared.refusal.MountRefusal.TheVariants as mount_refu
 use Rattle.mj_rank.specs.Finding.{found_in, IsFound, IsRefused}
 use Rattle.mj_rank.specs.Mounts.{Begins, MountSteps, first_value}
 use Rattle.mj_rank.specs.Request.{value_of}
-use Rattle.mj_world.specs.declared.answers.Said.{Said}
-use Rattle.mj_world.specs.declared.answers.Said.TheVariants.{Begun, Carried}
-use Rattle.mj_world.specs.declared.answers.WorldRefusal.{WorldRefusal}
-use Rattle.mj_world.specs.declared.answers.WorldRefusal.TheVariants as refusal
+use Rattle.mj_texts.specs.declared.steps.Said.{Said}
+use Rattle.mj_texts.specs.declared.steps.Said.TheVariants.{Begun, Carried}
+use Rattle.mj_world.specs.declared.refusal.WorldRefusal.{WorldRefusal}
+use Rattle.mj_world.specs.declared.refusal.WorldRefusal.TheVariants as refusal
 use Rattle.mj_world.specs.declared.world.Phase.{Phase}
 use Rattle.mj_world.specs.declared.world.Phase.TheVariants as phase
 

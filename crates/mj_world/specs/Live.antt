@@ -2,17 +2,17 @@
 --     WorldLives     the store, the mount or the rank of the world has its facts against the machine
 --     machine_after  the machine after a step that was answered so
 --     Replies        what the machine says is what was answered
-use Rattle.std.specs.Prelude.{◌≡◌, ℕ, false, true, Option, None, Result, Ok, IsTrue, IsSome}
-use Rattle.mj_tree.specs.Answer.{changes}
+use Rattle.std.specs.Prelude.{◌≡◌, ℕ, false, true, Option, None, Result, Ok}
 use Rattle.mj_tree.specs.Listing.{listing}
 use Rattle.mj_store.specs.State.{StoreState}
-use Rattle.mj_machine.specs.Machine.{LogMachine, early_state, reply_to, stopped}
+use Rattle.mj_machine.specs.Legal.{IsReplyTo}
+use Rattle.mj_machine.specs.Machine.{LogMachine, early_state, stopped}
 use Rattle.mj_rank.specs.Live.{RankLives, MountLives, StopLives, after_early, after_reap}
-use Rattle.mj_world.specs.declared.answers.Said.{Said}
-use Rattle.mj_world.specs.declared.answers.Said.TheVariants as said
-use Rattle.mj_world.specs.declared.answers.Step.{Step}
-use Rattle.mj_world.specs.declared.answers.Step.TheVariants as step
-use Rattle.mj_world.specs.declared.answers.WorldRefusal.{WorldRefusal}
+use Rattle.mj_texts.specs.declared.steps.Said.{Said}
+use Rattle.mj_texts.specs.declared.steps.Said.TheVariants as said
+use Rattle.mj_texts.specs.declared.steps.Step.{Step}
+use Rattle.mj_texts.specs.declared.steps.Step.TheVariants as step
+use Rattle.mj_world.specs.declared.refusal.WorldRefusal.{WorldRefusal}
 use Rattle.mj_world.specs.declared.world.Phase.{Phase}
 use Rattle.mj_world.specs.declared.world.Phase.TheVariants as phase
 use Rattle.mj_world.specs.declared.world.World.{World}
@@ -45,7 +45,7 @@ machine_after m s result = m
 
 -- The reply is the machine's, and a request that changes its state has an end. The tree and the state are those of all requests that were kept.
 abbrev pub Replies : LogMachine → Step → Result Said WorldRefusal → Type 0
-Replies m (step.Ask r) (Ok (said.Asked early)) = (early.reply ≡ reply_to m r) × (IsTrue (changes (early_state m) r) → IsSome early.ends_at)
+Replies m (step.Ask r) (Ok (said.Asked early)) = IsReplyTo m r early
 Replies m step.Tree (Ok (said.Tree text)) = text ≡ listing (early_state m) false
 Replies m step.State (Ok (said.State text)) = text ≡ listing (early_state m) true
 Replies m s result = Unit {0}

@@ -4,9 +4,9 @@ use Rattle.mj_store.specs.Causes.{Listed}
 use Rattle.mj_store.specs.State.{StoreState}
 use Rattle.mj_machine.specs.Machine.{LogMachine}
 use Rattle.mj_rank.specs.Live.{StopsSafely}
-use Rattle.mj_world.specs.declared.answers.Said.{Said}
-use Rattle.mj_world.specs.declared.answers.Step.{Step}
-use Rattle.mj_world.specs.declared.answers.WorldRefusal.{WorldRefusal}
+use Rattle.mj_texts.specs.declared.steps.Said.{Said}
+use Rattle.mj_texts.specs.declared.steps.Step.{Step}
+use Rattle.mj_world.specs.declared.refusal.WorldRefusal.{WorldRefusal}
 use Rattle.mj_world.specs.declared.world.World.{World}
 use Rattle.mj_world.specs.World.{WorldSince, HasFailed}
 use Rattle.mj_world.specs.Refusals.{IsFault}

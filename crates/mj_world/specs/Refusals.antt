@@ -4,8 +4,8 @@ use Rattle.mj_rank.specs.declared.refusal.RankRefusal.TheVariants as rank_refusa
 use Rattle.mj_rank.specs.declared.refusal.MountRefusal.{MountRefusal}
 use Rattle.mj_rank.specs.declared.refusal.MountRefusal.TheVariants as mount_refusal
 use Rattle.mj_rank.specs.Refusals as rank
-use Rattle.mj_world.specs.declared.answers.WorldRefusal.{WorldRefusal}
-use Rattle.mj_world.specs.declared.answers.WorldRefusal.TheVariants.{Rank, Mount, Store, Memory}
+use Rattle.mj_world.specs.declared.refusal.WorldRefusal.{WorldRefusal}
+use Rattle.mj_world.specs.declared.refusal.WorldRefusal.TheVariants.{Rank, Mount, Store, Memory}
 
 abbrev pub IsDownRank : RankRefusal → Type 0
 IsDownRank (rank_refusal.Down fault sealed) = Unit {0}

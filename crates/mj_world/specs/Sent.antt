@@ -6,10 +6,10 @@ use Rattle.mj_rank.specs.declared.rank.Rank.{Rank}
 use Rattle.mj_rank.specs.Refusals.{IsDownFor}
 use Rattle.mj_rank.specs.Request.{value_of}
 use Rattle.mj_rank.specs.Sending.{Flushes, Acknowledges, ack_of}
-use Rattle.mj_world.specs.declared.answers.Said.{Said}
-use Rattle.mj_world.specs.declared.answers.Said.TheVariants.{Flushed, Reaped}
-use Rattle.mj_world.specs.declared.answers.WorldRefusal.{WorldRefusal}
-use Rattle.mj_world.specs.declared.answers.WorldRefusal.TheVariants as refusal
+use Rattle.mj_texts.specs.declared.steps.Said.{Said}
+use Rattle.mj_texts.specs.declared.steps.Said.TheVariants.{Flushed, Reaped}
+use Rattle.mj_world.specs.declared.refusal.WorldRefusal.{WorldRefusal}
+use Rattle.mj_world.specs.declared.refusal.WorldRefusal.TheVariants as refusal
 
 -- the rank is as it was, but for its fault
 abbrev pub Stands : {S : Type 0} → Rank S → Rank S → Type 0

@@ -7,10 +7,10 @@ use Rattle.mj_rank.specs.declared.mounting.Mounting.{Mounting}
 use Rattle.mj_rank.specs.declared.rank.Rank.{Rank}
 use Rattle.mj_rank.specs.Refusals.{IsDownFor}
 use Rattle.mj_rank.specs.Request.{value_of}
-use Rattle.mj_world.specs.declared.answers.Said.{Said}
-use Rattle.mj_world.specs.declared.answers.Said.TheVariants.{Applied, Restarted}
-use Rattle.mj_world.specs.declared.answers.WorldRefusal.{WorldRefusal}
-use Rattle.mj_world.specs.declared.answers.WorldRefusal.TheVariants as refusal
+use Rattle.mj_texts.specs.declared.steps.Said.{Said}
+use Rattle.mj_texts.specs.declared.steps.Said.TheVariants.{Applied, Restarted}
+use Rattle.mj_world.specs.declared.refusal.WorldRefusal.{WorldRefusal}
+use Rattle.mj_world.specs.declared.refusal.WorldRefusal.TheVariants as refusal
 use Rattle.mj_world.specs.declared.world.Phase.{Phase}
 use Rattle.mj_world.specs.declared.world.Phase.TheVariants as phase
 use Rattle.mj_world.specs.Sent.{Stands}

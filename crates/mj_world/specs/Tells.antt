@@ -3,13 +3,13 @@ use Rattle.std.specs.Prelude.{◌≡◌, ℕ, Option, Result}
 use Rattle.mj_store.specs.State.{StoreState}
 use Rattle.mj_rank.specs.declared.rank.Rank.{Rank}
 use Rattle.mj_tree.specs.Request.{IsRequest}
-use Rattle.mj_world.specs.declared.answers.Said.{Said}
-use Rattle.mj_world.specs.declared.answers.Step.{Step}
-use Rattle.mj_world.specs.declared.answers.Step.TheVariants as step
-use Rattle.mj_world.specs.declared.answers.WorldRefusal.{WorldRefusal}
+use Rattle.mj_texts.specs.declared.steps.Said.{Said}
+use Rattle.mj_texts.specs.declared.steps.Step.{Step}
+use Rattle.mj_texts.specs.declared.steps.Step.TheVariants as step
+use Rattle.mj_world.specs.declared.refusal.WorldRefusal.{WorldRefusal}
 use Rattle.mj_world.specs.declared.world.Phase.{Phase}
 use Rattle.mj_world.specs.declared.world.Phase.TheVariants as phase
-use Rattle.mj_world.specs.Asked.{Answers, Lists, ListsFully}
+use Rattle.mj_world.specs.Asked.{Answers, Lists}
 use Rattle.mj_world.specs.Sent.{IsFlushed, IsReaped}
 use Rattle.mj_world.specs.Carried.{IsBegun, IsCarried}
 use Rattle.mj_world.specs.Stored.{IsTried, IsRestarted}
@@ -44,5 +44,5 @@ Tells state number step.Reap old result new = WhileServing (IsReaped state) old 
 Tells state number step.Begin old result new = WhileStopped state number old result new
 Tells state number step.Carry old result new = WhileMounting state old result new
 Tells state number step.Restart old result new = IsRestarted state old result new
-Tells state number step.Tree old result new = WhileServing Lists old result new
-Tells state number step.State old result new = WhileServing ListsFully old result new
+Tells state number step.Tree old result new = WhileServing (Lists false) old result new
+Tells state number step.State old result new = WhileServing (Lists true) old result new

@@ -4,10 +4,10 @@ use Rattle.mj_base.specs.declared.object.ObjectName.{ObjectName}
 use Rattle.mj_store.specs.Causes.{Listed}
 use Rattle.mj_store.specs.State.{StoreState}
 use Rattle.mj_machine.specs.Machine.{LogMachine}
-use Rattle.mj_rank.specs.declared.answers.MountStep.TheVariants.{Waiting}
-use Rattle.mj_world.specs.declared.answers.Said.{Said}
-use Rattle.mj_world.specs.declared.answers.Said.TheVariants.{Carried}
-use Rattle.mj_world.specs.declared.answers.Step.TheVariants.{Apply, Carry}
+use Rattle.mj_texts.specs.declared.steps.MountStep.TheVariants.{Waiting}
+use Rattle.mj_texts.specs.declared.steps.Said.{Said}
+use Rattle.mj_texts.specs.declared.steps.Said.TheVariants.{Carried}
+use Rattle.mj_texts.specs.declared.steps.Step.TheVariants.{Apply, Carry}
 use Rattle.mj_world.specs.declared.world.World.{World}
 use Rattle.mj_world.specs.Live.{WorldLives}
 use Rattle.mj_world.specs.Made.{Made}

@@ -6,10 +6,11 @@ ghost use Rattle.mj_store.specs.Causes.{Counted};
 ghost use Rattle.mj_rank.specs.Refusals.{IsStoreFault};
 ghost use Rattle.mj_world.specs.Refusals.{IsFault, IsDownRank, of_rank, of_mount};
 
-use crate::answers::{Said, Step, WorldRefusal};
+use crate::refusal::WorldRefusal;
 use mj_base::{Items, ObjectName, OpNo, RankNo};
-use mj_rank::{MountRefusal, MountStep, Mounting, Rank, RankRefusal};
+use mj_rank::{MountRefusal, Mounting, Rank, RankRefusal};
 use mj_store::ObjectStore;
+use mj_texts::{MountStep, Said, Step};
 use mj_tree::ClientRequest;
 use std::alloc::Global;
 use std::mem;
@@ -32,7 +33,7 @@ impl<S: ObjectStore> World<S> {
     ghost use Rattle.mj_world.specs.Steps.{IsAnswerTo, Leaves};
     ghost use Rattle.mj_world.specs.Oldest.{oldest_sent};
     ghost use Rattle.mj_world.specs.Phases.{phase_refusal, of_serving, of_stopped, of_mounting, of_any, ByPhase};
-    ghost use Rattle.mj_world.specs.Asked.{Answers, Lists, ListsFully};
+    ghost use Rattle.mj_world.specs.Asked.{Answers, Lists, listing_step};
     ghost use Rattle.mj_world.specs.Sent.{IsFlushed, IsReaped};
     ghost use Rattle.mj_world.specs.Stored.{IsTried, IsRestarted};
     ghost use Rattle.mj_world.specs.Tells.{CanStep, WhileServing, WhileStopped, WhileMounting};
@@ -69,8 +70,8 @@ impl<S: ObjectStore> World<S> {
             Step::Begin => self.begin(alloc),
             Step::Carry => self.carry(alloc),
             Step::Restart => self.restart(),
-            Step::Tree => self.tree(alloc),
-            Step::State => self.full_tree(alloc),
+            Step::Tree => self.list(alloc, false),
+            Step::State => self.list(alloc, true),
         }
     }
 
@@ -146,39 +147,22 @@ impl<S: ObjectStore> World<S> {
         }
     }
 
-    fn tree(&mut self, alloc: Global) -> Result<Said, WorldRefusal>
-        ensures same { self.new ≡ self.old }
-        ensures answer { IfOk result (IsAnswerTo Step.Tree) }
-        ensures cause { (base : ℕ) → IfErr result (λ e. IsFault e → HasFailed S.faults base self.new) }
-        ensures leaves { IfOk result (λ said. Leaves said self.old self.new) }
-        ensures phase { ByPhase (of_serving self.old.phase) result }
-        ensures tells { WhileServing Lists self.old.phase result self.new.phase }
-        ensures replies { (m : LogMachine) → WorldLives S.state self.old m → Replies m Step.Tree result }
+    // The tree, or with `full` the state.
+    fn list(&self, alloc: Global, full: bool) -> Result<Said, WorldRefusal>
+        ensures answer { IfOk result (IsAnswerTo (listing_step full)) }
+        ensures cause { (base : ℕ) → IfErr result (λ e. IsFault e → HasFailed S.faults base self.now) }
+        ensures leaves { IfOk result (λ said. Leaves said self.now self.now) }
+        ensures phase { ByPhase (of_serving self.now.phase) result }
+        ensures tells { WhileServing (Lists full) self.now.phase result self.now.phase }
+        ensures replies { (m : LogMachine) → WorldLives S.state self.now m → Replies m (listing_step full) result }
     {
-        match &self.phase {
-            Phase::Serving(rank) => match rank.listing(alloc, false) {
-                Ok(text) => Ok(Said::Tree(Items::from_vec(text))),
-                Err(_) => Err(WorldRefusal::Memory),
-            },
-            _ => Err(WorldRefusal::Stopped),
-        }
-    }
-
-    fn full_tree(&mut self, alloc: Global) -> Result<Said, WorldRefusal>
-        ensures same { self.new ≡ self.old }
-        ensures answer { IfOk result (IsAnswerTo Step.State) }
-        ensures cause { (base : ℕ) → IfErr result (λ e. IsFault e → HasFailed S.faults base self.new) }
-        ensures leaves { IfOk result (λ said. Leaves said self.old self.new) }
-        ensures phase { ByPhase (of_serving self.old.phase) result }
-        ensures tells { WhileServing ListsFully self.old.phase result self.new.phase }
-        ensures replies { (m : LogMachine) → WorldLives S.state self.old m → Replies m Step.State result }
-    {
-        match &self.phase {
-            Phase::Serving(rank) => match rank.listing(alloc, true) {
-                Ok(text) => Ok(Said::State(Items::from_vec(text))),
-                Err(_) => Err(WorldRefusal::Memory),
-            },
-            _ => Err(WorldRefusal::Stopped),
+        let Phase::Serving(rank) = &self.phase else {
+            return Err(WorldRefusal::Stopped);
+        };
+        match rank.listing(alloc, full) {
+            Ok(text) if full => Ok(Said::State(Items::from_vec(text))),
+            Ok(text) => Ok(Said::Tree(Items::from_vec(text))),
+            Err(_) => Err(WorldRefusal::Memory),
         }
     }
 

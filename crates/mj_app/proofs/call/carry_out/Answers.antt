@@ -1,6 +1,8 @@
 use Rattle.std.proofs.Common.{inl, refl}
-use Rattle.mj_app.proofs.CallLemmas.{formats_not_2, model_not_2}
-use Rattle.mj_app.proofs.HeadlineLemmas.{formats_play, models_play}
+use Rattle.mj_app.specs.Call.{files_state}
+use Rattle.mj_app.specs.Status.{code_of}
+use Rattle.mj_app.proofs.CallLemmas.{formats_not_2, model_not_2, play_says}
+use Rattle.mj_app.proofs.HeadlineLemmas.{formats_play, has_first, has_headline, models_play}
 use Rattle.mj_app.proofs.call.carry_out.Goals as goal
 
 pub returns-in-Format-clause-served : goal.returns-in-Format-clause-served
@@ -16,22 +18,22 @@ pub returns-in-Format-clause-first : goal.returns-in-Format-clause-first
 returns-in-Format-clause-first g c = rw c.in-Format.is (formats_play _ c.in-Format.rank c.in-Format.layout)
 
 pub returns-in-Play-clause-served : goal.returns-in-Play-clause-served
-returns-in-Play-clause-served g c = λ two. c.play_call.ensures.says.own (inl two)
+returns-in-Play-clause-served g c = λ two. (play_says g.S.ObjectStore.state g.S.ObjectStore.faults g.S.ObjectStore.unreported _ _ _ (files_state g.F.Files.told g.F.Files.faults c.play_script.new.files) _ _ c.play_script.result.0 _ c.play_script.result.1 (code_of c.play_script.result.0) refl c.play_script.ensures.says c.play_script.ensures.exact).own (inl two)
 
 pub returns-in-Play-clause-says : goal.returns-in-Play-clause-says
-returns-in-Play-clause-says g c = rw c.in-Play.is c.play_call.ensures.says
+returns-in-Play-clause-says g c = rw c.in-Play.is (play_says g.S.ObjectStore.state g.S.ObjectStore.faults g.S.ObjectStore.unreported _ _ _ _ _ _ c.play_script.result.0 _ c.play_script.result.1 (code_of c.play_script.result.0) refl c.play_script.ensures.says c.play_script.ensures.exact)
 
 pub returns-in-Play-clause-headline : goal.returns-in-Play-clause-headline
-returns-in-Play-clause-headline g c = rw c.in-Play.is c.play_call.ensures.headline
+returns-in-Play-clause-headline g c = rw c.in-Play.is (has_headline g.S.ObjectStore.state g.S.ObjectStore.faults g.S.ObjectStore.unreported _ _ _ (files_state g.F.Files.told g.F.Files.faults c.play_script.new.files) _ _ _ _ _ c.play_script.result.0 refl c.play_script.ensures.says)
 
 pub returns-in-Play-clause-first : goal.returns-in-Play-clause-first
-returns-in-Play-clause-first g c = rw c.in-Play.is c.play_call.ensures.first
+returns-in-Play-clause-first g c = rw c.in-Play.is (has_first g.S.ObjectStore.state g.S.ObjectStore.faults g.S.ObjectStore.unreported _ _ _ (files_state g.F.Files.told g.F.Files.faults c.play_script.new.files) _ _ _ _ _ c.play_script.result.0 refl c.play_script.ensures.says c.play_script.ensures.small)
 
 pub returns-in-Model-clause-served : goal.returns-in-Model-clause-served
-returns-in-Model-clause-served g c = λ two. model_not_2 g.S.ObjectStore.state g.S.ObjectStore.faults g.S.ObjectStore.unreported _ _ _ _ _ _ _ _ _ c.model_call.ensures.says two
+returns-in-Model-clause-served g c = λ two. model_not_2 g.S.ObjectStore.state g.S.ObjectStore.faults g.S.ObjectStore.unreported _ _ _ _ _ _ _ _ _ (record { status = c.answer_chronicle.result.0; is = refl; ends = c.answer_chronicle.ensures.says; exact = c.answer_chronicle.ensures.exact }) two
 
 pub returns-in-Model-clause-says : goal.returns-in-Model-clause-says
-returns-in-Model-clause-says g c = rw c.in-Model.is c.model_call.ensures.says
+returns-in-Model-clause-says g c = rw c.in-Model.is (record { status = c.answer_chronicle.result.0; is = refl; ends = c.answer_chronicle.ensures.says; exact = c.answer_chronicle.ensures.exact })
 
 pub returns-in-Model-clause-headline : goal.returns-in-Model-clause-headline
 returns-in-Model-clause-headline g c = rw c.in-Model.is (models_play _ c.in-Model.rank c.in-Model.chronicle.now)

@@ -1,4 +1,4 @@
-use Rattle.mj_lines.specs.Script.{script_of}
+use Rattle.mj_texts.specs.Script.{script_of}
 use Rattle.mj_app.specs.Call.{files_state}
 use Rattle.mj_app.proofs.CallLemmas.{played, read_exact, refused, refused_play, refusal_exact}
 use Rattle.mj_app.proofs.call.play_script.Goals as goal

@@ -1,4 +1,4 @@
-use Rattle.mj_lines.specs.Script.{script_of}
+use Rattle.mj_texts.specs.Script.{script_of}
 use Rattle.mj_app.proofs.CallLemmas.{keeps_from_lines}
 use Rattle.mj_app.proofs.read.read_lines.Goals as goal
 

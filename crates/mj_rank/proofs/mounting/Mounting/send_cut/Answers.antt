@@ -1,6 +1,6 @@
 use Rattle.std.proofs.Common.{refl, ap, subst, sym, ◌∙◌, List, ◌++◌, ◌∷◌, []}
 use Rattle.mj_base.specs.declared.object.ObjectName.{ObjectName}
-use Rattle.mj_rank.specs.declared.answers.MountStep.TheVariants as step
+use Rattle.mj_texts.specs.declared.steps.MountStep.TheVariants as step
 use Rattle.mj_rank.specs.declared.cutting.Cut.{Cut}
 use Rattle.mj_rank.specs.Mounts.{mount_value}
 use Rattle.mj_rank.specs.Since.{OutAt}

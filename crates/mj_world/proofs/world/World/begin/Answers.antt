@@ -6,7 +6,7 @@ use Rattle.mj_world.specs.World.{PhaseSince}
 use Rattle.mj_world.specs.Live.{PhaseLives}
 use Rattle.mj_world.specs.Phases.{of_stopped, ByPhase}
 use Rattle.mj_world.specs.Tells.{WhileStopped}
-use Rattle.mj_world.specs.declared.answers.WorldRefusal.TheVariants as refusal
+use Rattle.mj_world.specs.declared.refusal.WorldRefusal.TheVariants as refusal
 use Rattle.mj_world.specs.declared.world.Phase.TheVariants.{Stopped, Mounting}
 use Rattle.mj_world.proofs.Between.{between, goes_on, stops_in, stops_same}
 use Rattle.mj_world.proofs.Refused.{refuses_stopped, stays_stopped}

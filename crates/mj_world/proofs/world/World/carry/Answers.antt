@@ -1,10 +1,10 @@
 use Rattle.std.proofs.Common.{sym, ◌∙◌, subst}
 use Rattle.mj_rank.specs.Live.{StopsSafely}
 use Rattle.std.specs.Prelude.{Ok}
-use Rattle.mj_rank.specs.declared.answers.MountStep.TheVariants.{Ready}
+use Rattle.mj_texts.specs.declared.steps.MountStep.TheVariants.{Ready}
 use Rattle.mj_world.specs.World.{PhaseSince}
 use Rattle.mj_world.specs.Tells.{WhileMounting}
-use Rattle.mj_world.specs.declared.answers.Said.TheVariants.{Carried}
+use Rattle.mj_texts.specs.declared.steps.Said.TheVariants.{Carried}
 use Rattle.mj_world.specs.declared.world.Phase.TheVariants.{Mounting, Serving}
 use Rattle.mj_world.proofs.Between.{between, goes_on, stops_in, stops_same}
 use Rattle.mj_world.proofs.Numbers.{number_carried}

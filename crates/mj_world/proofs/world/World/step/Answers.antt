@@ -1,8 +1,5 @@
-use Rattle.std.proofs.Common.{sym, ap, subst}
-use Rattle.mj_world.specs.World.{WorldSince}
-use Rattle.mj_world.specs.Live.{WorldLives}
+use Rattle.std.proofs.Common.{refl, sym, subst}
 use Rattle.mj_world.specs.Made.{Made}
-use Rattle.mj_world.specs.declared.world.World.{World}
 use Rattle.mj_world.proofs.Between.{stops_same}
 use Rattle.mj_world.proofs.world.World.step.Goals as goal
 
@@ -120,32 +117,32 @@ returns-in-Restart g c = record {
 
 pub returns-in-Tree : goal.returns-in-Tree
 returns-in-Tree g c = record {
-  made = subst (λ s. Made g.S.ObjectStore.state g.S.ObjectStore.faults g.S.ObjectStore.unreported s c.args.self.now c.tree.result c.tree.new.self) (sym c.in-Tree.is) (record {
-    number = ap (λ (w : World _). w.number) c.tree.ensures.same;
-    since = λ base h. subst (WorldSince g.S.ObjectStore.faults g.S.ObjectStore.unreported base) (sym c.tree.ensures.same) h;
-    cause = λ base h. c.tree.ensures.cause base;
-    answer = c.tree.ensures.answer;
-    leaves = λ base h. c.tree.ensures.leaves;
-    phase = c.tree.ensures.phase;
-    tells = c.tree.ensures.tells;
-    live = λ m h. subst (λ w. WorldLives g.S.ObjectStore.state w m) (sym c.tree.ensures.same) h;
-    stops = stops_same g.S.ObjectStore.state c.args.self.now c.tree.new.self (ap (λ (w : World _). w.phase) c.tree.ensures.same);
-    replies = c.tree.ensures.replies;
+  made = subst (λ s. Made g.S.ObjectStore.state g.S.ObjectStore.faults g.S.ObjectStore.unreported s c.args.self.now c.list.result c.args.self.now) (sym c.in-Tree.is) (record {
+    number = refl;
+    since = λ base h. h;
+    cause = λ base h. c.list.ensures.cause base;
+    answer = c.list.ensures.answer;
+    leaves = λ base h. c.list.ensures.leaves;
+    phase = c.list.ensures.phase;
+    tells = c.list.ensures.tells;
+    live = λ m h. h;
+    stops = stops_same g.S.ObjectStore.state c.args.self.now c.args.self.now refl;
+    replies = c.list.ensures.replies;
   });
 }
 
 pub returns-in-State : goal.returns-in-State
 returns-in-State g c = record {
-  made = subst (λ s. Made g.S.ObjectStore.state g.S.ObjectStore.faults g.S.ObjectStore.unreported s c.args.self.now c.full_tree.result c.full_tree.new.self) (sym c.in-State.is) (record {
-    number = ap (λ (w : World _). w.number) c.full_tree.ensures.same;
-    since = λ base h. subst (WorldSince g.S.ObjectStore.faults g.S.ObjectStore.unreported base) (sym c.full_tree.ensures.same) h;
-    cause = λ base h. c.full_tree.ensures.cause base;
-    answer = c.full_tree.ensures.answer;
-    leaves = λ base h. c.full_tree.ensures.leaves;
-    phase = c.full_tree.ensures.phase;
-    tells = c.full_tree.ensures.tells;
-    live = λ m h. subst (λ w. WorldLives g.S.ObjectStore.state w m) (sym c.full_tree.ensures.same) h;
-    stops = stops_same g.S.ObjectStore.state c.args.self.now c.full_tree.new.self (ap (λ (w : World _). w.phase) c.full_tree.ensures.same);
-    replies = c.full_tree.ensures.replies;
+  made = subst (λ s. Made g.S.ObjectStore.state g.S.ObjectStore.faults g.S.ObjectStore.unreported s c.args.self.now c.list-in_State.result c.args.self.now) (sym c.in-State.is) (record {
+    number = refl;
+    since = λ base h. h;
+    cause = λ base h. c.list-in_State.ensures.cause base;
+    answer = c.list-in_State.ensures.answer;
+    leaves = λ base h. c.list-in_State.ensures.leaves;
+    phase = c.list-in_State.ensures.phase;
+    tells = c.list-in_State.ensures.tells;
+    live = λ m h. h;
+    stops = stops_same g.S.ObjectStore.state c.args.self.now c.args.self.now refl;
+    replies = c.list-in_State.ensures.replies;
   });
 }

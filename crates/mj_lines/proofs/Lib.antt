@@ -1,2 +1,0 @@
-pub mod SpellingLemmas
-pub mod TextLemmas

@@ -1,4 +1,0 @@
-pub mod Line
-pub mod Script
-pub mod Text
-pub mod Spelling
