@@ -3,3 +3,5 @@ pub mod Refused
 pub mod Inside
 pub mod PlainLists
 pub mod Ranges
+pub mod HasTree
+pub mod Reads
