@@ -1,4 +1,12 @@
 pub mod PlainMaps
 pub mod RangesKept
 pub mod PlainReplies
+pub mod PlainSessions
+pub mod Placed
+pub mod Ascending
+pub mod Nearest
 pub mod Replies
+pub mod Names
+pub mod Opens
+pub mod EachTree
+pub mod NewCells

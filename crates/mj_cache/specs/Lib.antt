@@ -4,3 +4,5 @@ pub mod Inside
 pub mod PlainLists
 pub mod Ranges
 pub mod PlainParts
+pub mod HasTree
+pub mod Reads

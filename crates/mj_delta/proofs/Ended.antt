@@ -8,6 +8,7 @@ use Rattle.mj_maps.proofs.MapLaws.{exact_nat, exact_pair, none_some, remove_same
 use Rattle.mj_tree.specs.declared.change.Decision.TheVariants.{SessionEnds}
 use Rattle.mj_tree.specs.declared.request.ClientRequest.{ClientRequest}
 use Rattle.mj_tree.specs.State.{PlainState, Session, opens_of}
+use Rattle.mj_tree.specs.Sessions.{oldest_of}
 use Rattle.mj_tree.specs.Change.{without_session}
 use Rattle.mj_tree.specs.Answer.{decision, kept_reply, after}
 use Rattle.mj_cells.specs.Table.{Table, overlay}
@@ -15,7 +16,7 @@ use Rattle.mj_event.specs.declared.SessionEvent.{SessionEvent}
 use Rattle.mj_event.specs.declared.SessionKind.TheVariants.{Close}
 use Rattle.mj_event.specs.Event.{IsSessionEvent}
 use Rattle.mj_event.specs.Writes.{session_writes}
-use Rattle.mj_delta.specs.TreeOf.{HasSessions, IsTreeOf, oldest_of}
+use Rattle.mj_delta.specs.TreeOf.{HasSessions, IsTreeOf}
 use Rattle.mj_delta.specs.Fits.{IsSent}
 use Rattle.mj_delta.specs.Events.{tids, own_session, close_event}
 use Rattle.std.specs.List.{AllByRecursion}

@@ -9,6 +9,7 @@ use Rattle.mj_tree.specs.declared.change.Attributes.{Attributes}
 use Rattle.mj_tree.specs.declared.change.Decision.TheVariants.{SessionBegins, SessionEnds}
 use Rattle.mj_tree.specs.declared.request.ClientRequest.{ClientRequest}
 use Rattle.mj_tree.specs.State.{PlainState, Session}
+use Rattle.mj_tree.specs.Sessions.{oldest_of}
 use Rattle.mj_tree.specs.Change.{new_session}
 use Rattle.mj_tree.specs.Answer.{decision, answer, after, changes, kept_reply}
 use Rattle.mj_cells.specs.declared.cell.CellKey.{CellKey}
@@ -19,7 +20,7 @@ use Rattle.mj_cells.specs.Table.{Table, overlay}
 use Rattle.mj_event.specs.Writes.{write, reply_gone, replies_gone, writes_of}
 use Rattle.mj_recovery.specs.Tree.{tree_of}
 use Rattle.mj_machine.specs.Delta.{number_or_gone, value_after, IsWritten, IsEventOf, IsExactDelta, new_primary}
-use Rattle.mj_delta.specs.TreeOf.{HasDentries, IsTreeOf, oldest_of}
+use Rattle.mj_delta.specs.TreeOf.{HasDentries, IsTreeOf}
 use Rattle.mj_delta.specs.Fits.{IsSent}
 use Rattle.mj_delta.specs.Events.{tids, open_event, close_event}
 use Rattle.mj_delta.proofs.Facts.{cases_option, record_primary}

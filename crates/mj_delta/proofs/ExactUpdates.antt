@@ -16,6 +16,7 @@ use Rattle.mj_tree.specs.declared.request.Op.TheVariants.{SessionOpen, SessionCl
 use Rattle.mj_tree.specs.declared.request.Reply.{Reply}
 use Rattle.mj_tree.specs.declared.request.Reply.TheVariants as reply
 use Rattle.mj_tree.specs.State.{PlainState, Session}
+use Rattle.mj_tree.specs.Sessions.{oldest_of}
 use Rattle.mj_tree.specs.Change.{changed, keeping, kept_in}
 use Rattle.mj_tree.specs.Row.{effect}
 use Rattle.mj_tree.specs.Answer.{decision, answer, after, changes, is_change, reply_of, kept_reply}
@@ -31,7 +32,7 @@ use Rattle.mj_event.specs.declared.UpdateEvent.{UpdateEvent}
 use Rattle.mj_event.specs.declared.Event.TheVariants as event
 use Rattle.mj_recovery.specs.Tree.{tree_of}
 use Rattle.mj_machine.specs.Delta.{same_content, number_or_gone, value_after, IsWritten, IsEventOf, IsExactDelta, new_primary, op_number}
-use Rattle.mj_delta.specs.TreeOf.{HasSessions, IsTreeOf, oldest_of}
+use Rattle.mj_delta.specs.TreeOf.{HasSessions, IsTreeOf}
 use Rattle.mj_delta.specs.Fits.{IsSent}
 use Rattle.mj_delta.specs.Events.{raised_oldest, dropped_replies, update_of}
 use Rattle.mj_delta.specs.Steps.{GivesTree}

@@ -17,6 +17,7 @@ use Rattle.mj_maps.proofs.MapLaws.{exact_nat, exact_place, none_some, insert_sam
 use Rattle.mj_layout.specs.Striping.{Striping, IsStriping}
 use Rattle.mj_tree.specs.declared.change.Attributes.{Attributes}
 use Rattle.mj_tree.specs.State.{PlainState, Session, root, new_state, is_dir, is_kind, is_kept}
+use Rattle.mj_tree.specs.Sessions.{oldest_of}
 use Rattle.mj_cells.specs.declared.cell.CellKey.TheVariants as key
 use Rattle.mj_cells.specs.declared.cell.CellValue.{CellValue}
 use Rattle.mj_cells.specs.declared.cell.CellValue.TheVariants as value
@@ -32,7 +33,7 @@ use Rattle.mj_recovery.proofs.Stores.{stored_is}
 use Rattle.mj_recovery.proofs.Formatting.{held}
 use Rattle.mj_recovery.specs.Orderly.{IsOwn}
 use Rattle.mj_delta.specs.Reads.{names, full_of, said_by, remote_of, is_held}
-use Rattle.mj_delta.specs.TreeOf.{IsReached, HasDentries, HasSessions, IsTreeOf, oldest_of}
+use Rattle.mj_delta.specs.TreeOf.{IsReached, HasDentries, HasSessions, IsTreeOf}
 use Rattle.mj_delta.specs.TreeOf.IsReached.{at_root}
 use Rattle.mj_delta.specs.Fresh.{fresh_table}
 use Rattle.mj_delta.proofs.Facts.{cond_same, is_some_at}

@@ -11,12 +11,13 @@ use Rattle.mj_maps.specs.Map.{get, count}
 use Rattle.mj_maps.proofs.MapLaws.{exact_nat, exact_place, none_some, some_same, count_some, same_map}
 use Rattle.mj_tree.specs.declared.change.Attributes.{Attributes}
 use Rattle.mj_tree.specs.State.{PlainState, Session, is_dir, is_kind, is_kept}
+use Rattle.mj_tree.specs.Sessions.{oldest_of}
 use Rattle.mj_cells.specs.Table.{Dentry, Table}
 use Rattle.mj_cells.specs.Table.Dentry.{Full, Remote}
 use Rattle.mj_recovery.specs.Tree.{IsReachable, subdir}
 use Rattle.mj_recovery.specs.Tree.IsReachable.{at_root as top, below as under}
 use Rattle.mj_delta.specs.Reads.{Places, names, full_of, said_by, cell_of, kind_of, is_held}
-use Rattle.mj_delta.specs.TreeOf.{IsReached, HasDentries, HasSessions, IsTreeOf, oldest_of}
+use Rattle.mj_delta.specs.TreeOf.{IsReached, HasDentries, HasSessions, IsTreeOf}
 use Rattle.mj_delta.specs.TreeOf.IsReached.{at_root, below}
 use Rattle.mj_delta.proofs.Facts.{cond_is, full_named, named_cases}
 

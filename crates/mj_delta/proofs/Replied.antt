@@ -8,6 +8,7 @@ use Rattle.mj_maps.specs.Orders.{nat_cmp, pair_cmp}
 use Rattle.mj_maps.proofs.MapLaws.{exact_nat, exact_pair, none_some, some_same, insert_same, insert_other, cases_key, apart, eq_false, get_empty, len_empty, len-insert_new, len-insert_over, retain_passes, retain_fails, get-retain}
 use Rattle.mj_tree.specs.declared.request.ClientRequest.{ClientRequest}
 use Rattle.mj_tree.specs.State.{PlainState, Session}
+use Rattle.mj_tree.specs.Sessions.{oldest_of}
 use Rattle.mj_tree.specs.Change.{new_session, keeping, with_session, with_reply, kept_in}
 use Rattle.mj_tree.specs.Answer.{most_sessions, most_kept, kept_reply, still_kept}
 use Rattle.mj_cells.specs.Table.{Table, overlay}
@@ -15,7 +16,7 @@ use Rattle.mj_cells.specs.declared.cell.CellWrite.{CellWrite}
 use Rattle.mj_cells.specs.declared.cell.CellKey.TheVariants as key
 use Rattle.mj_cells.specs.declared.cell.CellValue.TheVariants as value
 use Rattle.mj_event.specs.Writes.{write, where_some, replies_gone}
-use Rattle.mj_delta.specs.TreeOf.{HasSessions, oldest_of}
+use Rattle.mj_delta.specs.TreeOf.{HasSessions}
 use Rattle.mj_delta.specs.Events.{raised_oldest, dropped_replies}
 use Rattle.mj_delta.proofs.Facts.{is_some_at, some_is}
 use Rattle.mj_delta.proofs.Lists.{Lies}

@@ -20,6 +20,7 @@ use Rattle.mj_maps.specs.Map.{Map, entries, entries_sorted, get, remove, len, co
 use Rattle.mj_maps.specs.Orders.{nat_cmp, pair_cmp}
 use Rattle.mj_maps.proofs.MapLaws.{exact_nat, exact_place, exact_pair, none_some, some_same, count_cases, count_none, count-remove, remove_same, remove_other, cases_key, len-from_entries}
 use Rattle.mj_tree.specs.State.{PlainState, Session, root, is_file, link_count, entry_count}
+use Rattle.mj_tree.specs.Sessions.{oldest_of}
 use Rattle.mj_tree.specs.Row.{most_entries, most_inodes, most_opens}
 use Rattle.mj_tree.specs.Answer.{most_sessions, most_kept, kept_reply}
 use Rattle.mj_cells.specs.Table.{Dentry, Table}
@@ -28,7 +29,7 @@ use Rattle.mj_recovery.specs.Tree.{Entry, ino_of, is_among, reachable, holding, 
 use Rattle.mj_recovery.specs.Damage.{first_some, least, times, inos, headless, twice, is_full_of, lone_remote, miscounted, is_given, misnamed, is_known, low_next, out_of_range, is_bad_open, bad_opens, first_open, replies, is_bad_reply, bad_replies, over, over_entries, over_limit, tree_damage, cell_dirs}
 use Rattle.mj_recovery.specs.Orderly.{IsOwn}
 use Rattle.mj_delta.specs.Reads.{names, full_of, said_by, stored_links, remote_of, kind_of}
-use Rattle.mj_delta.specs.TreeOf.{HasDentries, IsTreeOf, oldest_of}
+use Rattle.mj_delta.specs.TreeOf.{HasDentries, IsTreeOf}
 use Rattle.mj_delta.proofs.Facts.{ids, cases_option, cond_same, some_is, is_some_at, full_cell}
 use Rattle.mj_delta.proofs.Lists.{Lies, no_items, all_lies, lies_all, in_append, in_map, in_filter, in_filter_map, to_any, lies_among, entry_at, passing_option}
 use Rattle.mj_delta.proofs.TreeIs.{full_entry, among_dirs, among_held, fulls, listed_full, full_listed, tree_is, kept_are}

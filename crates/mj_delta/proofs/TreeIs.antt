@@ -12,12 +12,13 @@ use Rattle.mj_maps.specs.Map.{entries, get, collect, from_entries, count}
 use Rattle.mj_maps.specs.Orders.{nat_cmp, pair_cmp}
 use Rattle.mj_maps.proofs.MapLaws.{exact_nat, exact_place, exact_pair, none_some, some_same, cases_key, eq_same, eq_false, apart, same_map, get-collect, get-entries, get-from_entries}
 use Rattle.mj_tree.specs.State.{PlainState, Session, is_dir, is_kept, attributes_of}
+use Rattle.mj_tree.specs.Sessions.{oldest_of}
 use Rattle.mj_cells.specs.Table.{Dentry, Table}
 use Rattle.mj_cells.specs.Table.Dentry.{Full, Remote}
 use Rattle.mj_recovery.specs.Tree.{ino_of, is_among, reachable, holding, full_record, full_records, primaries, reply_of, session_in, link_in, record_in, bare_tree, tree_of}
 use Rattle.mj_recovery.proofs.Reaching.{reached_sound, reached_complete}
 use Rattle.mj_delta.specs.Reads.{names, full_of, said_by, cell_of, is_held}
-use Rattle.mj_delta.specs.TreeOf.{HasDentries, IsTreeOf, oldest_of}
+use Rattle.mj_delta.specs.TreeOf.{HasDentries, IsTreeOf}
 use Rattle.mj_delta.proofs.Facts.{cases_option, cond_same, full_cell}
 use Rattle.mj_delta.proofs.OneTree.{reach_in, in_reach, reach_dir, same_bool}
 use Rattle.mj_delta.proofs.Lists.{Lies, in_filter_map, to_filter_map, in_map, to_map, entry_at, at_entry, found_in, found_some}

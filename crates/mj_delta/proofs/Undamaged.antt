@@ -14,6 +14,7 @@ use Rattle.mj_maps.specs.Orders.{nat_cmp, pair_cmp}
 use Rattle.mj_maps.proofs.MapLaws.{exact_nat, exact_place, exact_pair, none_some, some_same, cases_key, remove_other, count-remove, count_some, count_cases, count_none, get-collect, get-entries, get-from_entries, len-from_entries}
 use Rattle.mj_tree.specs.declared.change.Attributes.{Attributes}
 use Rattle.mj_tree.specs.State.{PlainState, Session, root, is_dir, is_kind, is_kept, link_count, open_count, entry_count, attributes_of}
+use Rattle.mj_tree.specs.Sessions.{oldest_of}
 use Rattle.mj_tree.specs.Row.{most_entries}
 use Rattle.mj_tree.specs.Answer.{most_kept}
 use Rattle.mj_cells.specs.Table.{Dentry, Table}
@@ -24,7 +25,7 @@ use Rattle.mj_recovery.specs.Damage.{replies, tree_damage, cell_dirs}
 use Rattle.mj_recovery.specs.Orderly.{IsOwn}
 use Rattle.mj_recovery.proofs.Reaching.{reached_sound, reached_complete}
 use Rattle.mj_delta.specs.Reads.{Places, names, full_of, said_by, stored_links, remote_of, cell_of, kind_of, is_held}
-use Rattle.mj_delta.specs.TreeOf.{IsReached, HasDentries, HasSessions, IsTreeOf, oldest_of}
+use Rattle.mj_delta.specs.TreeOf.{IsReached, HasDentries, HasSessions, IsTreeOf}
 use Rattle.mj_delta.specs.TreeOf.IsReached.{at_root, below}
 use Rattle.mj_delta.specs.Cells.{next_of, HasSpelling, HasOwnCells}
 use Rattle.mj_delta.proofs.Facts.{ids, cases_option, cond_same, cond_is, some_is, is_some_at, full_cell, named_cases, kind_record}

@@ -10,6 +10,7 @@ use Rattle.mj_tree.specs.declared.change.Change.{Change}
 use Rattle.mj_tree.specs.declared.change.Decision.TheVariants.{Accepted}
 use Rattle.mj_tree.specs.declared.request.ClientRequest.{ClientRequest}
 use Rattle.mj_tree.specs.State.{PlainState, Session, is_dir}
+use Rattle.mj_tree.specs.Sessions.{oldest_of}
 use Rattle.mj_tree.specs.Change.{changed}
 use Rattle.mj_tree.specs.Answer.{decision, after, most_sessions}
 use Rattle.mj_cells.specs.declared.cell.CellKey.{CellKey}
@@ -28,7 +29,7 @@ use Rattle.mj_recovery.specs.Damage.{lump_dirs, head_written}
 use Rattle.mj_recovery.specs.Orderly.{IsOwn}
 use Rattle.mj_machine.specs.Delta.{op_number}
 use Rattle.mj_delta.specs.Reads.{Places}
-use Rattle.mj_delta.specs.TreeOf.{IsReached, HasDentries, HasSessions, IsTreeOf, oldest_of}
+use Rattle.mj_delta.specs.TreeOf.{IsReached, HasDentries, HasSessions, IsTreeOf}
 use Rattle.mj_delta.specs.Fits.{IsSent}
 use Rattle.mj_delta.specs.Events.{raised_oldest, dropped_replies, update_of}
 use Rattle.mj_delta.specs.Steps.{IsOrderlyWrite, GivesTree}

@@ -5,11 +5,12 @@ use Rattle.mj_base.specs.Record.{same_kind}
 use Rattle.mj_base.specs.declared.record.Kind.{Kind}
 use Rattle.mj_base.specs.declared.record.Kind.TheVariants as kind
 use Rattle.mj_base.specs.declared.record.InodeRecord.{InodeRecord}
-use Rattle.mj_maps.specs.Map.{Map, entries, get, remove, retain, empty}
+use Rattle.mj_maps.specs.Map.{Map, entries, get, remove, retain}
 use Rattle.mj_maps.specs.Orders.{nat_cmp}
 use Rattle.mj_tree.specs.declared.change.Attributes.{Attributes}
 use Rattle.mj_tree.specs.declared.request.ClientRequest.{ClientRequest}
 use Rattle.mj_tree.specs.State.{PlainState, Session, root, link_count, is_kept, record_of}
+use Rattle.mj_tree.specs.Sessions.{session_at}
 use Rattle.mj_tree.specs.Change.{set_in}
 use Rattle.mj_tree.specs.declared.change.Settings.{Settings}
 use Rattle.mj_tree.specs.Row.{is_open}
@@ -31,7 +32,7 @@ tids m = map (λ (e : ℕ × ℕ). e.0) (entries m)
 
 -- the session of a request's client; where it has none, one that keeps nothing
 abbrev pub own_session : PlainState → ClientRequest → Session
-own_session s r = unwrap_or (get s.sessions r.client) (record { oldest = 0; kept = empty })
+own_session s r = session_at s r.client
 
 -- a session begins
 abbrev pub open_event : ClientRequest → Event

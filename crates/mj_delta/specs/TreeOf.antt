@@ -4,7 +4,6 @@
 --     HasSessions            what sessions and kept replies say
 --     IsReached              a directory has a way down from the root, by the state's links
 use Rattle.std.specs.Prelude.{◌≡◌, ℕ, ◌<◌, ◌≤◌, ◌^◌, true, false, cond, List, Option, Some, None, IsSome, IsTrue}
-use Rattle.std.specs.Option.{option_map}
 use Rattle.mj_base.specs.Name.{is_name}
 use Rattle.mj_base.specs.ObjectName.{hex, stray_ino, first_ino}
 use Rattle.mj_base.specs.Record.{IsRecord, same_kind}
@@ -13,6 +12,7 @@ use Rattle.mj_base.specs.declared.record.Kind.TheVariants.{Dir}
 use Rattle.mj_base.specs.declared.record.InodeRecord.{InodeRecord}
 use Rattle.mj_maps.specs.Map.{get, len}
 use Rattle.mj_tree.specs.State.{PlainState, Session, root, is_dir, is_file, is_kept, link_count, entry_count}
+use Rattle.mj_tree.specs.Sessions.{oldest_of}
 use Rattle.mj_tree.specs.Row.{most_entries, most_inodes, most_opens}
 use Rattle.mj_tree.specs.Answer.{most_sessions, most_kept, kept_reply}
 use Rattle.mj_cells.specs.Table.{Table}
@@ -62,9 +62,6 @@ pub record HasDentries (rank : ℕ) (t : Table) (s : PlainState) (primary : Plac
   -- each dentry has a spelling
   pub names_fit : (q : ℕ × List ℕ) → IsSome (get t.dentries q) → IsTrue (is_name q.1)
   pub records_fit : (q : ℕ × List ℕ) (version : ℕ) (r : InodeRecord) → get t.dentries q ≡ Some (Full version r) → IsRecord r
-
-abbrev pub oldest_of : Option Session → Option ℕ
-oldest_of o = option_map (λ (c : Session). c.oldest) o
 
 -- The sessions and kept replies are the state's.
 pub record HasSessions (t : Table) (s : PlainState) : Type 0 where

@@ -9,8 +9,8 @@ use Rattle.mj_index.specs.Places as places
 use Rattle.mj_cache.specs.Cached.{CacheValue, early_table, early_tree}
 use Rattle.mj_delta.specs.Events.{full_place}
 use Rattle.mj_delta.proofs.Facts.{cases_option, record_primary}
-use Rattle.mj_decide.specs.HasTree.{HasTree}
-use Rattle.mj_decide.proofs.Placed.{place_is, full_is}
+use Rattle.mj_cache.specs.HasTree.{HasTree}
+use Rattle.mj_cache.proofs.Placed.{place_is, full_is}
 
 -- it is looked up in the same place, whatever the request
 pub stands_there : (c : CacheValue) (r : ClientRequest) (i : ℕ) (q : ℕ × List ℕ) → places.full_place c.rank (early_table c) i ≡ Some q → full_place c.rank (early_table c) r i ≡ q

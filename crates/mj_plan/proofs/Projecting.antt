@@ -23,7 +23,7 @@ use Rattle.mj_delta.specs.Steps.{GivesTree}
 use Rattle.mj_delta.proofs.Fresh.{fresh_tree}
 use Rattle.mj_delta.proofs.Sound.{no_damage, own_cell_dirs}
 use Rattle.mj_delta.proofs.TreeIs.{tree_is}
-use Rattle.mj_decide.specs.HasTree.{HasTree}
+use Rattle.mj_cache.specs.HasTree.{HasTree}
 
 -- a table with a tree has no damage by itself, and its tree is computed
 sound : (rank : ℕ) (t : Table) (s : PlainState) → IsTreeOf rank t s → own_damage rank t ≡ None

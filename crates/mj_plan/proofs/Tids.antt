@@ -4,8 +4,8 @@ use Rattle.std.specs.Prelude.{unwrap_or}
 use Rattle.mj_maps.specs.Map.{Map, entries, empty, retain, collect, picked, passed, with_some}
 use Rattle.mj_maps.specs.Orders.{nat_cmp}
 use Rattle.mj_tree.specs.State.{Session}
+use Rattle.mj_tree.specs.Sessions.{oldest_of}
 use Rattle.mj_delta.specs.Events.{tids}
-use Rattle.mj_delta.specs.TreeOf.{oldest_of}
 
 entries-retain : (p : ℕ → ℕ → Bool) (m : Map nat_cmp ℕ) → entries (retain p m) ≡ picked (passed p) (entries m)
 unfolding entries collect

@@ -10,16 +10,16 @@ ghost use Rattle.mj_cache.specs.Cached.{early_table, early_tree};
 ghost use Rattle.mj_delta.specs.Events.{full_place};
 ghost use Rattle.mj_delta.specs.Plan.Naming.{Full};
 ghost use Rattle.mj_delta.specs.Plan.{naming, is_place, left_place, left_dentries, where_dir, unlink_plan, with_dentry, move_plan, replace_plan};
-ghost use Rattle.mj_decide.specs.HasTree.{HasTree};
+ghost use Rattle.mj_cache.specs.HasTree.{HasTree};
 ghost use Rattle.mj_plan.specs.Planning.{naming_of, dentries_in, plan_in};
 
 use crate::fulls::{FullDentry, full_of};
 use crate::lumps::with_links;
 use mj_base::{Ino, InodeRecord, Kind, Name, RankNo};
-use mj_cache::Cache;
+use mj_cache::{Cache, dentry_at};
 use mj_cells::CellValue;
-use mj_decide::{dentry_at, is_dir};
 use mj_recovery::stray_ino;
+use mj_tree::is_dir;
 use std::alloc::{AllocError, Global};
 use std::collections::BTreeMap;
 

@@ -10,7 +10,7 @@ ghost use Rattle.mj_cache.specs.Cached.{early_table, early_tree};
 ghost use Rattle.mj_delta.specs.Events.{open_event, close_event, nothing_event, hold_event, begin_event, set_event, link_event, release_lumps, release_event};
 ghost use Rattle.mj_delta.specs.Plan.{unlink_event, move_event, replace_event, plan_event};
 ghost use Rattle.mj_delta.specs.EventFor.{change_event, event_for};
-ghost use Rattle.mj_decide.specs.HasTree.{HasTree};
+ghost use Rattle.mj_cache.specs.HasTree.{HasTree};
 ghost use Rattle.mj_plan.specs.Planning.{plan_in};
 
 use crate::dentry_plans::{DentryPlan, move_plan, replace_plan, stray_name, unlink_plan};
@@ -18,12 +18,11 @@ use crate::lumps::{begin_lumps, link_lumps, next_version, null_lump, one, set_lu
 use crate::plan_lumps::lumps_of;
 use crate::updates::{Changed, update_of};
 use mj_base::{ClientId, Ino, Items, Name};
-use mj_cache::Cache;
-use mj_decide::{has_tree, is_open, kept_tids, link_count};
+use mj_cache::{Cache, has_tree, kept_tids};
 use mj_event::{Event, SessionEvent, SessionKind};
 use mj_meta::DirLump;
 use mj_recovery::stray_ino;
-use mj_tree::{Attributes, Change, ClientRequest, Decision, Settings};
+use mj_tree::{Attributes, Change, ClientRequest, Decision, Settings, TreeView};
 use std::alloc::{AllocError, Global};
 
 // ---- sessions
@@ -73,7 +72,7 @@ fn nothing_event(
 fn newly_opened(cache: &Cache, client: ClientId, ino: Ino) -> Option<Ino>
     ensures { result ≡ (if is_open (early_tree cache.now) client ino then None else Some ino) }
 {
-    if is_open(cache, client, ino) {
+    if cache.is_open(client, ino) {
         None
     } else {
         Some(ino)
@@ -103,7 +102,7 @@ fn other_opens(cache: &Cache, client: ClientId, ino: Ino) -> u64
     ensures { result ≡ open_count (record (early_tree cache.now) { opens = remove (early_tree cache.now).opens (client, ino) }) ino }
 {
     let opens = cache.opens_of(ino);
-    if is_open(cache, client, ino) {
+    if cache.is_open(client, ino) {
         opens.saturating_sub(1)
     } else {
         opens
@@ -115,7 +114,7 @@ fn is_kept_without(cache: &Cache, client: ClientId, ino: Ino) -> bool
     requires tree { HasTree cache.now }
     ensures { result ≡ is_kept (record (early_tree cache.now) { opens = remove (early_tree cache.now).opens (client, ino) }) ino }
 {
-    link_count(cache, ino) > 0 || other_opens(cache, client, ino) > 0
+    cache.link_count(ino) > 0 || other_opens(cache, client, ino) > 0
 }
 
 // A record that nothing keeps any more goes from stray.

@@ -1,12 +1,11 @@
 //! The full dentry of an inode that a link or an open names.
 
 ghost use Rattle.std.specs.Prelude.{◌≡◌};
-ghost use Rattle.mj_decide.specs.HasTree.{HasTree};
+ghost use Rattle.mj_cache.specs.HasTree.{HasTree};
 ghost use Rattle.mj_plan.specs.Fulls.{FullOf};
 
 use mj_base::{Ino, InodeRecord, Name};
-use mj_cache::Cache;
-use mj_decide::{full_place, record};
+use mj_cache::{Cache, full_place, record};
 
 /// Where a full dentry stands, and the record that it carries.
 #[derive(Clone, Copy)]

@@ -14,7 +14,7 @@ ghost use Rattle.mj_judge.specs.Own.{own_damage};
 ghost use Rattle.mj_cache.specs.Cached.{CacheValue, begun, projected, early_table, early_tree};
 ghost use Rattle.mj_delta.specs.Fresh.{fresh_table};
 ghost use Rattle.mj_delta.specs.Steps.{GivesTree};
-ghost use Rattle.mj_decide.specs.HasTree.{HasTree};
+ghost use Rattle.mj_cache.specs.HasTree.{HasTree};
 
 /// The writes of a planned event may be projected. The cache has its tree then too, which is the plain tree after the request.
 pub fn a_plan_is_projected()

@@ -13,5 +13,5 @@ mod updates;
 
 pub use events::event_of;
 pub use laws::{a_new_rank_is_cached, a_plan_is_projected};
-pub use mj_fresh::new_cells;
+pub use mj_cache::new_cells;
 pub use planned::{Planned, plan};

@@ -8,12 +8,11 @@ ghost use Rattle.mj_tree.specs.State.{attributes_of, link_count, record_of};
 ghost use Rattle.mj_tree.specs.Row.{most_links};
 ghost use Rattle.mj_cache.specs.Cached.{early_table, early_tree};
 ghost use Rattle.mj_delta.specs.Events.{next_version, full_place, full_lump, empty_lump, remote_lump, both_lump, null_lump, begin_lumps, set_lumps, second_lumps, link_lumps, says};
-ghost use Rattle.mj_decide.specs.HasTree.{HasTree};
+ghost use Rattle.mj_cache.specs.HasTree.{HasTree};
 
 use crate::fulls::{FullDentry, full_of};
 use mj_base::{Ino, InodeRecord, Items, Kind, Name};
-use mj_cache::Cache;
-use mj_decide::head_of;
+use mj_cache::{Cache, head_of};
 use mj_meta::{DirLump, FullBit, HeadBit, NullBit, RemoteBit};
 use mj_tree::{Attributes, Settings};
 use std::alloc::{AllocError, Global};

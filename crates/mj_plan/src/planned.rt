@@ -13,10 +13,9 @@ ghost use Rattle.mj_delta.specs.Steps.{GivesTree};
 
 use crate::events::event_of;
 use crate::sending::request_fits;
-use mj_cache::Cache;
-use mj_decide::{decide, has_tree};
+use mj_cache::{Cache, has_tree};
 use mj_event::Event;
-use mj_tree::{ClientRequest, Reply};
+use mj_tree::{ClientRequest, Reply, decide};
 use std::alloc::{AllocError, Global};
 
 /// What a request is answered, and the event that journals it where it changes the tree.

@@ -3,19 +3,18 @@
 ghost use Rattle.std.specs.Prelude.{◌≡◌, max, nat_lt, IfOk, Some, None, if◌then◌else◌};
 ghost use Rattle.mj_maps.specs.Map.{get};
 ghost use Rattle.mj_tree.specs.State.{Session};
+ghost use Rattle.mj_tree.specs.Sessions.{oldest_of};
 ghost use Rattle.mj_cache.specs.Cached.{early_tree};
 ghost use Rattle.mj_event.specs.declared.Event.TheVariants as event;
 ghost use Rattle.mj_machine.specs.Delta.{op_number};
 ghost use Rattle.mj_delta.specs.Events.{own_session, dropped_replies, update_of};
-ghost use Rattle.mj_delta.specs.TreeOf.{oldest_of};
-ghost use Rattle.mj_decide.specs.HasTree.{HasTree};
+ghost use Rattle.mj_cache.specs.HasTree.{HasTree};
 
 use mj_base::{Ino, Items, Tid};
-use mj_cache::Cache;
-use mj_decide::{kept_tids_below, session_oldest};
+use mj_cache::{Cache, kept_tids_below};
 use mj_event::{Event, UpdateEvent};
 use mj_meta::{DirLump, MetaBlob};
-use mj_tree::{ClientRequest, Op};
+use mj_tree::{ClientRequest, Op, TreeView};
 use std::alloc::{AllocError, Global};
 
 /// What an event says of a change: the next inode where that rises, the file that is opened or released, and the lumps.
@@ -106,7 +105,7 @@ pub fn update_of(
     requires tree { HasTree cache.now }
     ensures { IfOk result (λ e. e ≡ event.Update (update_of (early_tree cache.now) r.entry.now ino changed.next changed.opened changed.released changed.lumps.items)) }
 {
-    let own = session_oldest(cache, r.client);
+    let own = cache.session_oldest(r.client);
     let dropped = dropped_replies(alloc, cache, r, &own)?;
     let Changed {
         next,

@@ -11,9 +11,9 @@ ghost use Rattle.mj_replay.specs.Pieces.{InGrammar};
 
 use crate::lumps::LumpDirs;
 use mj_base::{Ino, RankNo};
+use mj_cache::new_cells;
 use mj_cells::{CellKey, CellValue};
 use mj_event::{Event, writes};
-use mj_fresh::new_cells;
 use mj_recovery::LiveEvent;
 use mj_tables::SafeCells;
 use std::alloc::{AllocError, Global};

@@ -1,5 +1,6 @@
 -- What is found and counted in a list, against the map that the list makes.
 use Rattle.std.proofs.Common.{Ordering, ◌≡◌, ℕ, ◌+◌, Bool, true, false, ◌==◌, ◌&&◌, cond, List, [], ◌∷◌, map, filter, count_by, length, suc, Option, Some, None, is_some, nat_le, refl, sym, ap, ◌∙◌, arith, T}
+use Rattle.std.specs.Prelude.{unwrap_or}
 use Rattle.std.specs.Option.{option_map, option_and_then}
 use Rattle.std.specs.List.{find}
 use Rattle.std.specs.Ordering.{eq_by_cmp}
@@ -10,7 +11,7 @@ use Rattle.std.proofs.lemmas.List.Recursion.{is_count_by}
 use Rattle.mj_base.specs.declared.record.InodeRecord.{InodeRecord}
 use Rattle.mj_base.specs.InOrder.{same_bytes}
 use Rattle.mj_maps.specs.Orders.{nat_cmp, place_cmp, pair_cmp}
-use Rattle.mj_maps.specs.Map.{get, len, from_entries, passing}
+use Rattle.mj_maps.specs.Map.{Map, get, len, count, empty, entries, from_entries, passing}
 use Rattle.mj_maps.proofs.MapLaws.{Exact, exact_nat, exact_place, exact_pair, get-from_entries, count-from_entries, len-from_entries, entries-from_entries}
 use Rattle.mj_maps.proofs.Kept.{place_ties, pair_ties}
 use Rattle.mj_tree.specs.declared.plain.PlainLink.{PlainLink}
@@ -19,9 +20,9 @@ use Rattle.mj_tree.specs.declared.session.PlainSession.{PlainSession}
 use Rattle.mj_tree.specs.declared.session.KeptReply.{KeptReply}
 use Rattle.mj_tree.specs.declared.plain.PlainTree.{PlainTree}
 use Rattle.mj_tree.specs.State.{Session, attributes_of, link_count, entry_count, open_count, opens_of}
-use Rattle.mj_tree.specs.declared.request.ClientRequest.{ClientRequest}
 use Rattle.mj_tree.specs.Row.{names_in}
-use Rattle.mj_tree.specs.Answer.{still_kept, kept_reply}
+use Rattle.mj_tree.specs.Answer.{kept_reply}
+use Rattle.mj_tree.specs.Sessions.{kept_of}
 use Rattle.mj_tree.specs.Lists.{record_entries, link_entries, open_entries, session_entries, session_of}
 use Rattle.mj_tree.specs.Replies.{kept_entries}
 use Rattle.mj_tree.specs.Meaning.{state_of}
@@ -108,9 +109,24 @@ module _ (t : PlainTree) where
   sessions_len = sym (len-from_entries exact_nat (session_entries t.sessions) (passes _ t.sessions_rise) ∙ length-map _ t.sessions)
 
 -- how many replies of a session are kept from a number on
-pub still_kept_is : (r : ClientRequest) (c : PlainSession) → count_by (λ (k : KeptReply). nat_le r.oldest k.tid) c.kept ≡ still_kept r (session_of c)
-still_kept_is r c = sym (count-from_entries exact_nat (λ (e : ℕ × ℕ). nat_le r.oldest e.0) (kept_entries c.kept) (passes _ c.replies_rise)
-    ∙ passing_counted (λ (k : KeptReply). (k.tid, k.ino)) (λ (e : ℕ × ℕ). nat_le r.oldest e.0) c.kept)
+kept_from_is : (oldest : ℕ) (c : PlainSession) → count_by (λ (k : KeptReply). nat_le oldest k.tid) c.kept ≡ count (λ (e : ℕ × ℕ). nat_le oldest e.0) (session_of c).kept
+kept_from_is oldest c = sym (count-from_entries exact_nat (λ (e : ℕ × ℕ). nat_le oldest e.0) (kept_entries c.kept) (passes _ c.replies_rise)
+    ∙ passing_counted (λ (k : KeptReply). (k.tid, k.ino)) (λ (e : ℕ × ℕ). nat_le oldest e.0) c.kept)
+
+abbrev kept_in : Option Session → Map nat_cmp ℕ
+kept_in o = (unwrap_or o (record { oldest = 0; kept = empty })).kept
+
+count_empty : (oldest : ℕ) → count (λ (e : ℕ × ℕ). nat_le oldest e.0) (empty {X = ℕ} {R = nat_cmp}) ≡ 0
+unfolding entries empty
+count_empty oldest = refl
+
+module _ (t : PlainTree) (client oldest : ℕ) where
+  pub kept_in_session : (c : PlainSession) → Some (session_of c) ≡ get (state_of t).sessions client
+      → count_by (λ (k : KeptReply). nat_le oldest k.tid) c.kept ≡ count (λ (e : ℕ × ℕ). nat_le oldest e.0) (kept_of (state_of t) client)
+  kept_in_session c e = kept_from_is oldest c ∙ ap (λ o. count (λ (e : ℕ × ℕ). nat_le oldest e.0) (kept_in o)) e
+
+  pub none_kept : None ≡ get (state_of t).sessions client → 0 ≡ count (λ (e : ℕ × ℕ). nat_le oldest e.0) (kept_of (state_of t) client)
+  none_kept e = sym (count_empty oldest) ∙ ap (λ o. count (λ (e : ℕ × ℕ). nat_le oldest e.0) (kept_in o)) e
 
 pub kept_by : (t : PlainTree) (client tid : ℕ) (c : PlainSession) → Some (session_of c) ≡ get (state_of t).sessions client
     → option_map (λ (k : KeptReply). k.ino) (find (λ (k : KeptReply). k.tid == tid) c.kept) ≡ kept_reply (state_of t) client tid

@@ -3,6 +3,9 @@ use Rattle.std.proofs.Common.{◌≡◌, ℕ, ◌+◌, ◌<◌, ◌≤◌, Bool,
 use Rattle.std.proofs.Math.Seq.{drop-length}
 use Rattle.mj_base.specs.InOrder.{same_bytes}
 use Rattle.mj_base.specs.Reading.{◌>>=◌}
+use Rattle.mj_tree.specs.declared.errno.Stop.{Stop}
+use Rattle.mj_tree.specs.declared.errno.Stop.TheVariants.{Memory, Refused}
+use Rattle.mj_tree.specs.Given.{Stops}
 use Rattle.mj_tree.specs.State.{PlainState, root, is_dir}
 use Rattle.mj_tree.specs.Walk.{Answer, Path, step, walk_from, parent_from, last_name, place, begins}
 
@@ -38,8 +41,13 @@ place_ok s path dirs name code d e w h = place_is s path dirs name code e ∙ (�
 pub place_not_dir : (s : PlainState) (path dirs : Path) (name : List ℕ) (code d : ℕ) → path ≡ dirs ++ name ∷ [] → walk_from s root dirs ≡ Ok d → is_dir s d ≡ false → place s path code ≡ Err 20
 place_not_dir s path dirs name code d e w h = place_is s path dirs name code e ∙ (λ z. (w z >>= as_dir s) >>= λ d. Ok (d, name)) ∙ ap (λ b. (if b then Ok d else Err 20) >>= λ d. Ok (d, name)) h
 
-pub place_err : (s : PlainState) (path dirs : Path) (name : List ℕ) (code e : ℕ) → path ≡ dirs ++ name ∷ [] → walk_from s root dirs ≡ Err e → place s path code ≡ Err e
+place_err : (s : PlainState) (path dirs : Path) (name : List ℕ) (code e : ℕ) → path ≡ dirs ++ name ∷ [] → walk_from s root dirs ≡ Err e → place s path code ≡ Err e
 place_err s path dirs name code x e w = place_is s path dirs name code e ∙ (λ z. (w z >>= as_dir s) >>= λ d. Ok (d, name))
+
+-- what stops the walk stops what follows it
+pub place_stops : (s : PlainState) (path dirs : Path) (name : List ℕ) (code : ℕ) (stop : Stop) → path ≡ dirs ++ name ∷ [] → Stops stop (walk_from s root dirs) → Stops stop (place s path code)
+place_stops s path dirs name code Memory e h = tt
+place_stops s path dirs name code (Refused x) e h = place_err s path dirs name code x e h
 
 -- beginnings
 

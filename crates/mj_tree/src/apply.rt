@@ -7,6 +7,7 @@ ghost use Rattle.mj_tree.specs.Answer.{answer, after, reply_of};
 ghost use Rattle.mj_tree.specs.Meaning.{state_of};
 
 use crate::change::{Change, Decision};
+use crate::deciding::decide;
 use crate::plain::PlainTree;
 use crate::request::{ClientRequest, Reply};
 use crate::sessions;
@@ -45,7 +46,7 @@ impl PlainTree {
     pub fn answer(&self, alloc: Global, r: &ClientRequest) -> Result<Reply, AllocError>
         ensures { IfOk result (λ reply. reply ≡ answer (state_of self.now) r.entry.now) }
     {
-        Ok(self.decide(alloc, r)?.into_reply())
+        Ok(decide(alloc, self, r)?.into_reply())
     }
 
     fn begin_session(&mut self, alloc: Global, r: &ClientRequest) -> Result<(), AllocError>
@@ -83,7 +84,7 @@ impl PlainTree {
         ensures ok { OnOk result (state_of self.new ≡ after (state_of self.old) r.entry.now) }
         ensures err { OnErr result (state_of self.new ≡ state_of self.old) }
     {
-        match self.decide(alloc, r)? {
+        match decide(alloc, self, r)? {
             Decision::Answered(reply) => Ok(reply),
             Decision::SessionBegins => {
                 self.begin_session(alloc, r)?;

@@ -14,10 +14,11 @@ ghost use Rattle.mj_tree.specs.Listing.{spaced, octal, kind_word, attribute_word
 ghost use Rattle.mj_tree.specs.Lists.{session_of};
 ghost use Rattle.mj_tree.specs.Meaning.{state_of};
 
+use crate::limits::ROOT;
 use crate::looks;
 use crate::plain::{PlainOpen, PlainTree};
 use crate::session::{KeptReply, PlainSession};
-use crate::tables::ROOT;
+use crate::view::TreeView;
 use itoa::Buffer;
 use mj_base::{Ino, InodeRecord, Items, Kind, escape};
 use std::alloc::{AllocError, Global};
@@ -228,7 +229,7 @@ impl PlainTree {
         let inode = self.record_or(root, ino);
         out.extend_from_slice(path)?;
         put_attributes(out, inode)?;
-        put_word(out, self.link_count(ino) as u64)?;
+        put_word(out, self.link_count(ino))?;
         put_word(out, ino.0)?;
         put_arrow(out, inode)
     }

@@ -1,17 +1,16 @@
 //! The operations that only look.
 ghost use Rattle.std.specs.Prelude.{◌≡◌, IfOk};
 ghost use Rattle.mj_tree.specs.State.{attributes, attributes_of, record_of, root_attributes};
-ghost use Rattle.mj_tree.specs.Row.{lookup, readdir, readlink, names_in};
+ghost use Rattle.mj_tree.specs.Row.{lookup, readdir, readlink};
 ghost use Rattle.mj_tree.specs.Walk.{found};
 ghost use Rattle.mj_tree.specs.Given.{Gives};
-ghost use Rattle.mj_tree.specs.Meaning.{state_of};
 
 use crate::change::Attributes;
 use crate::errno::{EINVAL, ENOENT, ENOTDIR, Stop};
-use crate::lists;
-use crate::plain::PlainTree;
-use crate::request::{NameList, Reply};
-use crate::tables::ROOT;
+use crate::limits::ROOT;
+use crate::request::Reply;
+use crate::view::{TreeView, is_dir};
+use crate::walking::walk;
 use mj_base::{Ino, InodeRecord, Kind, Path, Target};
 use std::alloc::{AllocError, Global};
 
@@ -62,59 +61,51 @@ pub fn record_of(ino: Ino, links: u32, attributes: Attributes) -> InodeRecord
     }
 }
 
-impl PlainTree {
-    // What the record of an inode says, the root's too.
-    fn attributes(&self, alloc: Global, ino: Ino) -> Result<Attributes, Stop>
-        ensures { Gives result (found (attributes (state_of self.now) ino)) }
-    {
-        if ino == ROOT {
-            return Ok(root_attributes(alloc));
-        }
-        match self.record(ino) {
-            Some(record) => Ok(attributes_of(alloc, record)?),
-            None => Err(Stop::Refused(ENOENT)),
-        }
+// What the record of an inode says, the root's too.
+fn attributes<V: TreeView>(alloc: Global, view: &V, ino: Ino) -> Result<Attributes, Stop>
+    ensures { Gives result (found (attributes (V.tree view.now) ino)) }
+{
+    if ino == ROOT {
+        return Ok(root_attributes(alloc));
     }
+    match view.record(ino) {
+        Some(record) => Ok(attributes_of(alloc, record)?),
+        None => Err(Stop::Refused(ENOENT)),
+    }
+}
 
-    // A record says its links in 32 bits: where there are more, there is no room for the answer.
-    #[tactic(auto, unfolding(crate::specs::Row::lookup))]
-    pub(crate) fn lookup(&self, alloc: Global, path: &Path) -> Result<Reply, Stop>
-        ensures { Gives result (lookup (state_of self.now) path.now) }
-    {
-        let ino = self.walk(path)?;
-        let attributes = self.attributes(alloc, ino)?;
-        match u32::try_from(self.link_count(ino)) {
-            Ok(links) => Ok(Reply::Found(record_of(ino, links, attributes))),
-            Err(_) => Err(Stop::Memory),
-        }
+// A record says its links in 32 bits: where there are more, there is no room for the answer.
+#[tactic(auto, unfolding(crate::specs::Row::lookup))]
+pub fn lookup<V: TreeView>(alloc: Global, view: &V, path: &Path) -> Result<Reply, Stop>
+    ensures { Gives result (lookup (V.tree view.now) path.now) }
+{
+    let ino = walk(alloc, view, path)?;
+    let attributes = attributes(alloc, view, ino)?;
+    match u32::try_from(view.link_count(ino)) {
+        Ok(links) => Ok(Reply::Found(record_of(ino, links, attributes))),
+        Err(_) => Err(Stop::Memory),
     }
+}
 
-    fn names_in(&self, alloc: Global, dir: Ino) -> Result<NameList, AllocError>
-        ensures { IfOk result (λ names. names ≡ names_in (state_of self.now) dir) }
-    {
-        lists::names_in(alloc, &self.links, dir)
+#[tactic(auto, unfolding(crate::specs::Row::readdir))]
+pub fn readdir<V: TreeView>(alloc: Global, view: &V, path: &Path) -> Result<Reply, Stop>
+    ensures { Gives result (readdir (V.tree view.now) path.now) }
+{
+    let dir = walk(alloc, view, path)?;
+    if !is_dir(view, dir) {
+        return Err(Stop::Refused(ENOTDIR));
     }
+    Ok(Reply::Names(view.names_in(alloc, dir)?))
+}
 
-    #[tactic(auto, unfolding(crate::specs::Row::readdir))]
-    pub(crate) fn readdir(&self, alloc: Global, path: &Path) -> Result<Reply, Stop>
-        ensures { Gives result (readdir (state_of self.now) path.now) }
-    {
-        let dir = self.walk(path)?;
-        if !self.is_dir(dir) {
-            return Err(Stop::Refused(ENOTDIR));
-        }
-        Ok(Reply::Names(self.names_in(alloc, dir)?))
+#[tactic(auto, unfolding(crate::specs::Row::readlink))]
+pub fn readlink<V: TreeView>(alloc: Global, view: &V, path: &Path) -> Result<Reply, Stop>
+    ensures { Gives result (readlink (V.tree view.now) path.now) }
+{
+    let ino = walk(alloc, view, path)?;
+    let attributes = attributes(alloc, view, ino)?;
+    if attributes.kind != Kind::Symlink {
+        return Err(Stop::Refused(EINVAL));
     }
-
-    #[tactic(auto, unfolding(crate::specs::Row::readlink))]
-    pub(crate) fn readlink(&self, alloc: Global, path: &Path) -> Result<Reply, Stop>
-        ensures { Gives result (readlink (state_of self.now) path.now) }
-    {
-        let ino = self.walk(path)?;
-        let attributes = self.attributes(alloc, ino)?;
-        if attributes.kind != Kind::Symlink {
-            return Err(Stop::Refused(EINVAL));
-        }
-        Ok(Reply::Link(attributes.target))
-    }
+    Ok(Reply::Link(attributes.target))
 }

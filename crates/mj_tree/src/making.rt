@@ -9,6 +9,7 @@ ghost use Rattle.mj_tree.specs.Meaning.{state_of};
 use crate::change::{Attributes, Change, Settings};
 use crate::looks::record_of;
 use crate::plain::PlainTree;
+use crate::view::TreeView;
 use mj_base::{ClientId, Ino, InodeRecord, Name};
 use std::alloc::{AllocError, Global};
 

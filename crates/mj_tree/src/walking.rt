@@ -1,58 +1,65 @@
-//! Walking paths in a plain tree. Symlinks are not followed.
-ghost use Rattle.std.specs.Prelude.{◌≡◌};
+//! Walking paths in a tree. Symlinks are not followed.
+
+ghost use Rattle.std.specs.Prelude.{◌≡◌, true, IfOk};
+ghost use Rattle.mj_tree.specs.State.{root, is_dir};
 ghost use Rattle.mj_tree.specs.Walk.{step, walk_from, walk, place, begins};
-ghost use Rattle.mj_tree.specs.State.{root};
 ghost use Rattle.mj_tree.specs.Given.{Gives};
-ghost use Rattle.mj_tree.specs.Meaning.{state_of};
 
 use crate::errno::{ENOENT, ENOTDIR, Errno, Stop};
-use crate::plain::PlainTree;
-use crate::tables::ROOT;
+use crate::limits::ROOT;
+use crate::view::{TreeView, is_dir};
 use mj_base::{Ino, Name, Path};
 use std::alloc::Global;
 
-impl PlainTree {
-    // One name further.
-    fn step(&self, dir: Ino, name: &Name) -> Result<Ino, Errno>
-        ensures { result ≡ step (state_of self.now) dir name.now }
-    {
-        if !self.is_dir(dir) {
-            return Err(ENOTDIR);
-        }
-        self.link_at(dir, name).ok_or(ENOENT)
+// One name further.
+fn step<V: TreeView>(alloc: Global, view: &V, dir: Ino, name: &Name) -> Result<Ino, Stop>
+    ensures { Gives result (step (V.tree view.now) dir name.now) }
+{
+    if !is_dir(view, dir) {
+        return Err(Stop::Refused(ENOTDIR));
     }
+    match view.link_at(alloc, dir, name)? {
+        Some(ino) => Ok(ino),
+        None => Err(Stop::Refused(ENOENT)),
+    }
+}
 
-    // Along the names from the root.
-    fn walk_names(&self, names: &[Name]) -> Result<Ino, Errno>
-        ensures { result ≡ walk_from (state_of self.now) root names.now }
-    {
-        let mut at = ROOT;
-        for name in names {
-            at = self.step(at, name)?;
-        }
-        Ok(at)
+// Along the names from the root.
+fn walk_names<V: TreeView>(alloc: Global, view: &V, names: &[Name]) -> Result<Ino, Stop>
+    ensures { Gives result (walk_from (V.tree view.now) root names.now) }
+{
+    let mut at = ROOT;
+    for name in names {
+        at = step(alloc, view, at, name)?;
     }
+    Ok(at)
+}
 
-    /// The inode that a path names.
-    pub(crate) fn walk(&self, path: &Path) -> Result<Ino, Errno>
-        ensures { result ≡ walk (state_of self.now) path.now }
-    {
-        self.walk_names(path.names())
-    }
+/// The inode that a path names.
+pub fn walk<V: TreeView>(alloc: Global, view: &V, path: &Path) -> Result<Ino, Stop>
+    ensures { Gives result (walk (V.tree view.now) path.now) }
+{
+    walk_names(alloc, view, path.names())
+}
 
-    /// The directory and the name in it that a path names. The root has none: for it the error is given.
-    pub(crate) fn place(&self, alloc: Global, path: &Path, root: Errno) -> Result<(Ino, Name), Stop>
-        ensures { Gives result (place (state_of self.now) path.now root) }
-    {
-        let Some((name, dirs)) = path.names().split_last() else {
-            return Err(Stop::Refused(root));
-        };
-        let dir = self.walk_names(dirs)?;
-        if !self.is_dir(dir) {
-            return Err(Stop::Refused(ENOTDIR));
-        }
-        Ok((dir, name.copy(alloc)?))
+/// The directory and the name in it that a path names. The root has none: for it the error is given.
+pub fn place<V: TreeView>(
+    alloc: Global,
+    view: &V,
+    path: &Path,
+    root: Errno,
+) -> Result<(Ino, Name), Stop>
+    ensures place { Gives result (place (V.tree view.now) path.now root) }
+    ensures dir { IfOk result (λ place. is_dir (V.tree view.now) place.0 ≡ true) }
+{
+    let Some((name, dirs)) = path.names().split_last() else {
+        return Err(Stop::Refused(root));
+    };
+    let dir = walk_names(alloc, view, dirs)?;
+    if !is_dir(view, dir) {
+        return Err(Stop::Refused(ENOTDIR));
     }
+    Ok((dir, name.copy(alloc)?))
 }
 
 /// Whether the first is a proper beginning of the second.

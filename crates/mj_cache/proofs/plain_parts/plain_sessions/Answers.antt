@@ -1,4 +1,4 @@
-use Rattle.mj_cache.proofs.Replies.{session_more}
+use Rattle.mj_cache.proofs.PlainSessions.{session_more}
 use Rattle.mj_cache.proofs.plain_parts.plain_sessions.Goals as goal
 
 pub loop-held-preserved : goal.loop-held-preserved

@@ -2,7 +2,7 @@ use Rattle.std.proofs.Common.{◌∙◌, ap}
 use Rattle.mj_base.specs.declared.record.InodeRecord.{InodeRecord}
 use Rattle.mj_maps.specs.Map.{from_entries, insert}
 use Rattle.mj_maps.specs.Orders.{nat_cmp}
-use Rattle.mj_cache.proofs.Replies.{put_inserts}
+use Rattle.mj_cache.proofs.PlainSessions.{put_inserts}
 use Rattle.mj_cache.proofs.plain_parts.put_record.Goals as goal
 
 pub returns : goal.returns

@@ -5,7 +5,7 @@ use Rattle.mj_cache.specs.Cached.{early_table, early_tree}
 use Rattle.mj_delta.specs.EventFor.{event_for}
 use Rattle.mj_delta.proofs.EventIs.{event_there, event_gives, event_exact}
 use Rattle.mj_delta.proofs.EventFits.{event_fits}
-use Rattle.mj_decide.proofs.Deciding.{answer_is}
+use Rattle.mj_tree.proofs.ByOldest.{answer_is}
 use Rattle.mj_plan.proofs.planned.plan.Goals as goal
 
 pub returns-clause-reply : goal.returns-clause-reply

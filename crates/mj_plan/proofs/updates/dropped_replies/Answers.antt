@@ -3,7 +3,7 @@ use Rattle.std.specs.Prelude.{max}
 use Rattle.mj_maps.specs.Map.{get}
 use Rattle.mj_cache.specs.Cached.{early_tree}
 use Rattle.mj_delta.specs.Events.{own_session, tids}
-use Rattle.mj_decide.proofs.Replies.{nothing_kept}
+use Rattle.mj_cache.proofs.Replies.{nothing_kept}
 use Rattle.mj_plan.proofs.Tids.{has_oldest, tids_pass}
 use Rattle.mj_plan.proofs.updates.dropped_replies.Goals as goal
 

@@ -1,7 +1,0 @@
-use Rattle.std.proofs.Common.{sym, ◌∙◌}
-use Rattle.mj_cache.specs.Cached.{early_tree}
-use Rattle.mj_decide.proofs.Replies.{nothing_kept}
-use Rattle.mj_decide.proofs.ranges.kept_tids.Goals as goal
-
-pub returns-in-None : goal.returns-in-None
-returns-in-None c = c.new.ensures.items ∙ nothing_kept (early_tree c.args.cache.now) c.args.client (sym c.in-None.ensures)

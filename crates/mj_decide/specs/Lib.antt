@@ -1,2 +1,0 @@
-pub mod HasTree
-pub mod Reads

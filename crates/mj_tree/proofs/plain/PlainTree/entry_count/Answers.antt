@@ -1,5 +1,0 @@
-use Rattle.mj_tree.proofs.Listed.{entry_count_is}
-use Rattle.mj_tree.proofs.plain.PlainTree.entry_count.Goals as goal
-
-pub returns : goal.returns
-returns c = rw c.links_from.ensures (entry_count_is c.args.self.now c.args.dir)
