@@ -1,6 +1,7 @@
 //! Blobs in bytes, and what becomes of bytes that are cut, changed or not at the start.
 
-use mj_meta::{BlobRefusal, blob_read, blob_write};
+use super::payload::changed;
+use mj_meta::{BlobRefusal, MetaBlob, blob_read, blob_write};
 use std::alloc::{AllocError, Global};
 use std::test::Fail;
 
@@ -17,7 +18,7 @@ const BLOB: [u8; 115] = [
 ];
 
 // Where its fields begin.
-const FIELDS: [usize; 26] = [
+static FIELDS: [usize; 26] = [
     0, 4, 12, 13, 21, 25, 29, 33, 35, 36, 44, 45, 53, 54, 56, 60, 64, 72, 80, 84, 86, 94, 95, 103,
     107, 111,
 ];
@@ -40,31 +41,35 @@ fn stops(alloc: Global, bytes: &[u8], from: usize) -> Result<Result<usize, u64>,
     }
 }
 
-fn changed(alloc: Global, bytes: &[u8], place: usize, b: u8) -> Result<Vec<u8>, AllocError> {
-    let mut others = bytes.to_vec(alloc)?;
-    if place < others.len() {
-        others[place] = b;
+// The blob between other bytes.
+fn between(alloc: Global, blob: &[u8]) -> Result<Vec<u8>, AllocError> {
+    let mut bytes = b"before".to_vec(alloc)?;
+    bytes.extend_from_slice(blob)?;
+    bytes.extend_from_slice(b"behind")?;
+    Ok(bytes)
+}
+
+// A copy of what is read, and where it ends.
+fn copied(alloc: Global, bytes: &[u8]) -> Result<(MetaBlob, usize), Fail> {
+    match blob_read(alloc, bytes, 6) {
+        Ok((read, behind)) => Ok((read.copy(alloc)?, behind)),
+        Err(_) => Err(Fail::from("a blob was refused")),
     }
-    Ok(others)
+}
+
+// Whether a blob ends where its bytes do, and is written behind what is kept.
+fn is_written_again(alloc: Global, blob: &[u8]) -> Result<bool, Fail> {
+    let bytes = between(alloc, blob)?;
+    let (copy, behind) = copied(alloc, &bytes)?;
+    let mut out = b"kept".to_vec(alloc)?;
+    blob_write(alloc, &copy, &mut out)?;
+    Ok(behind == 6usize.saturating_add(blob.len()) && out.strip_prefix(b"kept") == Some(blob))
 }
 
 #[test]
 fn a_blob_is_read_copied_and_written(rt: HostRuntime) -> Result<(), Fail> {
-    let alloc = rt.alloc();
-    for blob in [BLOB.as_slice(), NAMES.as_slice()] {
-        let mut bytes = b"before".to_vec(alloc)?;
-        bytes.extend_from_slice(blob)?;
-        bytes.extend_from_slice(b"behind")?;
-        let Ok((read, behind)) = blob_read(alloc, &bytes, 6) else {
-            return Err(Fail::from("a blob was refused"));
-        };
-        assert_eq!(rt; behind, 6usize.saturating_add(blob.len()));
-        let copy = read.copy(alloc)?;
-        let mut out = b"kept".to_vec(alloc)?;
-        blob_write(alloc, &copy, &mut out)?;
-        assert_eq!(rt; &out[..4], b"kept".as_slice());
-        assert_eq!(rt; &out[4..], blob);
-    }
+    assert!(rt; is_written_again(rt.alloc(), &BLOB)?);
+    assert!(rt; is_written_again(rt.alloc(), &NAMES)?);
     Ok(())
 }
 
@@ -83,7 +88,7 @@ fn a_cut_blob_stops_at_the_field(rt: HostRuntime) -> Result<(), Fail> {
 }
 
 // A byte of the names, what it becomes, and the field that is then wrong.
-const FAULTS: [(usize, u8, u64); 12] = [
+static FAULTS: [(usize, u8, u64); 12] = [
     (12, 2, 12),
     (25, 0, 25),
     (26, 1, 25),
@@ -108,18 +113,28 @@ fn each_fault_is_at_its_field(rt: HostRuntime) -> Result<(), Fail> {
         let bytes = changed(rt.alloc(), &NAMES, place, b)?;
         assert_eq!(rt; stops(rt.alloc(), &bytes, 0)?, Err(at), "{b} at {place}");
     }
-    // the directories fall
-    let bytes = changed(rt.alloc(), &BLOB, 91, 0)?;
-    let bytes = changed(rt.alloc(), &bytes, 86, 1)?;
+    Ok(())
+}
+
+#[test]
+fn directories_that_fall_are_a_fault(rt: HostRuntime) -> Result<(), Fail> {
+    let mut bytes = BLOB;
+    bytes[91] = 0;
+    bytes[86] = 1;
     assert_eq!(rt; stops(rt.alloc(), &bytes, 0)?, Err(86));
-    // a null name that is in no other list is read
-    let bytes = changed(rt.alloc(), &NAMES, 67, b'a')?;
+    Ok(())
+}
+
+#[test]
+fn a_null_name_that_is_in_no_other_list_is_read(rt: HostRuntime) -> Result<(), Fail> {
+    let mut bytes = NAMES;
+    bytes[67] = b'a';
     assert_eq!(rt; stops(rt.alloc(), &bytes, 0)?, Ok(76));
     Ok(())
 }
 
 // Where reading stops once each bit of a byte is turned, and 255 where a blob is left.
-const TURNED_BLOB: [u8; 115] = [
+static TURNED_BLOB: [u8; 115] = [
     115, 115, 115, 115, 255, 255, 255, 255, 255, 86, 86, 86, 12, 255, 255, 255, 255, 255, 255, 255,
     255, 86, 86, 86, 86, 86, 86, 86, 86, 86, 86, 86, 86, 35, 33, 255, 255, 255, 255, 255, 255, 255,
     255, 255, 44, 255, 255, 255, 255, 255, 255, 255, 255, 53, 255, 54, 255, 255, 255, 255, 255,
@@ -128,18 +143,18 @@ const TURNED_BLOB: [u8; 115] = [
     255, 255, 255, 255, 115, 115, 115, 115, 115, 115, 115, 115, 115, 115, 115, 115,
 ];
 
-const TURNED_NAMES: [u8; 76] = [
+static TURNED_NAMES: [u8; 76] = [
     76, 76, 76, 76, 255, 255, 255, 255, 255, 255, 255, 255, 12, 36, 36, 36, 36, 76, 76, 76, 76, 76,
     76, 76, 76, 27, 25, 47, 255, 255, 255, 255, 255, 255, 255, 255, 255, 255, 255, 255, 255, 255,
     255, 255, 44, 47, 45, 255, 255, 255, 255, 255, 255, 255, 255, 255, 255, 255, 255, 255, 255,
     255, 255, 255, 64, 67, 65, 255, 255, 255, 255, 255, 255, 255, 255, 255,
 ];
 
-fn turned(alloc: Global, bytes: &[u8], place: usize, stop: u8) -> Result<bool, Fail> {
+// Whether a blob with the byte at a place turned stops there.
+fn is_turned(alloc: Global, bytes: &[u8], place: usize, stop: u8) -> Result<bool, Fail> {
     let byte = bytes.get(place).copied().unwrap_or(0);
     let others = changed(alloc, bytes, place, byte ^ 0xff)?;
-    let found = stops(alloc, &others, 0)?;
-    Ok(match found {
+    Ok(match stops(alloc, &others, 0)? {
         Ok(behind) => stop == 255 && behind == bytes.len(),
         Err(at) => at == u64::from(stop),
     })
@@ -148,13 +163,15 @@ fn turned(alloc: Global, bytes: &[u8], place: usize, stop: u8) -> Result<bool, F
 #[test]
 fn a_turned_byte_stops_at_its_field(rt: HostRuntime) -> Result<(), Fail> {
     for (place, stop) in TURNED_BLOB.iter().enumerate() {
-        assert!(rt; turned(rt.alloc(), &BLOB, place, *stop)?, "blob at {place}");
+        assert!(rt; is_turned(rt.alloc(), &BLOB, place, *stop)?, "at {place}");
     }
+    Ok(())
+}
+
+#[test]
+fn a_turned_byte_of_names_stops_at_its_field(rt: HostRuntime) -> Result<(), Fail> {
     for (place, stop) in TURNED_NAMES.iter().enumerate() {
-        assert!(rt;
-            turned(rt.alloc(), &NAMES, place, *stop)?,
-            "names at {place}"
-        );
+        assert!(rt; is_turned(rt.alloc(), &NAMES, place, *stop)?, "at {place}");
     }
     Ok(())
 }

@@ -1,28 +1,10 @@
 //! Events in bytes, and what becomes of bytes that are cut, changed or too long.
 
-use mj_event::{EventRefusal, event_read, event_write, writes};
+use super::payload::{MAP, MKDIR, OPEN, changed};
 use mj_cells::{CellKey, CellValue};
-use std::alloc::{AllocError, Global};
+use mj_event::{EventRefusal, event_read, event_write, writes};
+use std::alloc::Global;
 use std::test::Fail;
-
-/// The subtree map of rank 0.
-const MAP: [u8; 24] = [
-    2, 0, 0, 0, 2, 0, 0, 0, 1, 0, 0, 0, 0, 0, 0, 0, 0, 1, 0, 0, 0, 0, 0, 0,
-];
-
-/// `mkdir /a 755` of client 4 at time 101, its tid 2.
-const MKDIR: [u8; 156] = [
-    0x14, 0x00, 0x00, 0x00, 0x03, 0x04, 0x00, 0x00, 0x00, 0x02, 0x00, 0x00, 0x00, 0x00, 0x00, 0x00,
-    0x00, 0x00, 0x00, 0x00, 0x00, 0x00, 0x01, 0x00, 0x00, 0x00, 0x00, 0x00, 0x00, 0x00, 0x01, 0x01,
-    0x00, 0x00, 0x00, 0x00, 0x01, 0x00, 0x00, 0x00, 0x00, 0x02, 0x00, 0x00, 0x00, 0x01, 0x00, 0x00,
-    0x00, 0x00, 0x00, 0x00, 0x00, 0x01, 0x02, 0x00, 0x00, 0x00, 0x00, 0x00, 0x00, 0x00, 0x01, 0x00,
-    0x00, 0x00, 0x00, 0x00, 0x00, 0x00, 0x00, 0x00, 0x00, 0x00, 0x01, 0x00, 0x61, 0x02, 0x00, 0x00,
-    0x00, 0x00, 0x00, 0x00, 0x00, 0x01, 0x00, 0x00, 0x00, 0x00, 0x00, 0x01, 0x00, 0x00, 0x01, 0xed,
-    0x01, 0x00, 0x00, 0x00, 0x00, 0x00, 0x00, 0x00, 0x00, 0x00, 0x00, 0x00, 0x00, 0x00, 0x00, 0x00,
-    0x00, 0x65, 0x00, 0x00, 0x00, 0x00, 0x00, 0x00, 0x00, 0x01, 0x00, 0x00, 0x00, 0x00, 0x00, 0x00,
-    0x00, 0x00, 0x00, 0x00, 0x01, 0x00, 0x00, 0x01, 0x01, 0x00, 0x00, 0x00, 0x00, 0x00, 0x00, 0x00,
-    0x00, 0x00, 0x00, 0x00, 0x00, 0x00, 0x00, 0x00, 0x00, 0x00, 0x00, 0x00,
-];
 
 // Where the fields of the mkdir begin, in order, and the end.
 const FIELDS: [usize; 38] = [
@@ -37,14 +19,6 @@ fn stops(alloc: Global, payload: &[u8]) -> Result<Option<u64>, Fail> {
         Err(EventRefusal::BadEvent(at)) => Ok(Some(at)),
         Err(EventRefusal::Memory) => Err(Fail::from("memory ran out")),
     }
-}
-
-fn changed(alloc: Global, bytes: &[u8], place: usize, b: u8) -> Result<Vec<u8>, AllocError> {
-    let mut others = bytes.to_vec(alloc)?;
-    if place < others.len() {
-        others[place] = b;
-    }
-    Ok(others)
 }
 
 // The beginning of the field in which a place lies.
@@ -78,12 +52,14 @@ fn a_mkdir_and_a_map_are_read_and_written(rt: HostRuntime) -> Result<(), Fail> {
 #[test]
 fn a_cut_event_stops_at_the_field(rt: HostRuntime) -> Result<(), Fail> {
     for k in 0..156usize {
-        assert_eq!(rt;
-            stops(rt.alloc(), &MKDIR[..k])?,
-            Some(field_of(k)),
-            "at {k}"
-        );
+        let stop = stops(rt.alloc(), &MKDIR[..k])?;
+        assert_eq!(rt; stop, Some(field_of(k)), "at {k}");
     }
+    Ok(())
+}
+
+#[test]
+fn a_long_event_stops_at_its_end(rt: HostRuntime) -> Result<(), Fail> {
     let mut long = MKDIR.to_vec(rt.alloc())?;
     long.push(0)?;
     assert_eq!(rt; stops(rt.alloc(), &long)?, Some(156));
@@ -122,42 +98,49 @@ fn stops_once_changed(place: usize) -> Option<u64> {
 #[test]
 fn a_changed_byte_stops_at_its_field(rt: HostRuntime) -> Result<(), Fail> {
     for place in 0..156usize {
-        let bytes = changed(rt.alloc(), &MKDIR, place, 0xff)?;
-        let wanted = stops_once_changed(place);
-        assert_eq!(rt; stops(rt.alloc(), &bytes)?, wanted, "at {place}");
+        let mut bytes = MKDIR;
+        bytes[place] = 0xff;
+        let stop = stops(rt.alloc(), &bytes)?;
+        assert_eq!(rt; stop, stops_once_changed(place), "at {place}");
     }
     Ok(())
 }
 
+// Two files that are open.
+const REOPEN: [u8; 32] = [
+    22, 0, 0, 0, 2, 0, 0, 0, 4, 0, 0, 0, 9, 0, 0, 0, 0, 0, 0, 0, 4, 0, 0, 0, 9, 0, 0, 0, 0, 0, 0, 0,
+];
+
+// A payload, the place of a byte, what it becomes, and where reading stops.
+static FAULTS: [(&[u8], usize, u8, Option<u64>); 12] = [
+    // a map whose second inode is not above the first, and one of no inode
+    (&MAP, 17, 0, Some(16)),
+    (&MAP, 4, 0, Some(4)),
+    // an open session that drops a reply; a session of no kind
+    (&OPEN, 25, 1, Some(25)),
+    (&OPEN, 8, 3, Some(8)),
+    (&OPEN, 28, 0, None),
+    // the same file twice; the clients fall; the inode rises
+    (&REOPEN, 0, 22, Some(24)),
+    (&REOPEN, 20, 3, Some(20)),
+    (&REOPEN, 24, 10, None),
+    // a pad that is not zero, and one byte too many
+    (&[51, 0, 0, 0, 2, 0, 0, 0, 0, 0], 9, 1, Some(8)),
+    (&[51, 0, 0, 0, 2, 0, 0, 0, 0, 0], 4, 1, Some(9)),
+    (&[51, 0, 0, 0, 2, 0, 0, 0, 0, 0], 4, 3, Some(8)),
+    (&[9, 0, 0, 0], 0, 9, None),
+];
+
+fn stops_with(alloc: Global, payload: &[u8], place: usize, b: u8) -> Result<Option<u64>, Fail> {
+    let bytes = changed(alloc, payload, place, b)?;
+    stops(alloc, &bytes)
+}
+
 #[test]
 fn each_fault_is_at_its_field(rt: HostRuntime) -> Result<(), Fail> {
-    let open = [
-        10, 0, 0, 0, 4, 0, 0, 0, 1, 1, 0, 0, 0, 0, 0, 0, 0, 1, 0, 0, 0, 0, 0, 0, 0, 0, 0, 0, 0,
-    ];
-    let reopen = [
-        22, 0, 0, 0, 2, 0, 0, 0, 4, 0, 0, 0, 9, 0, 0, 0, 0, 0, 0, 0, 4, 0, 0, 0, 9, 0, 0, 0, 0, 0,
-        0, 0,
-    ];
-    for (payload, place, b, wanted) in [
-        // a map whose second inode is not above the first, and one of no inode
-        (MAP.as_slice(), 17, 0, Some(16)),
-        (MAP.as_slice(), 4, 0, Some(4)),
-        // an open session that drops a reply; a session of no kind
-        (open.as_slice(), 25, 1, Some(25)),
-        (open.as_slice(), 8, 3, Some(8)),
-        (open.as_slice(), 28, 0, None),
-        // the same file twice; the clients fall; the inode rises
-        (reopen.as_slice(), 0, 22, Some(24)),
-        (reopen.as_slice(), 20, 3, Some(20)),
-        (reopen.as_slice(), 24, 10, None),
-        // a pad that is not zero, and one byte too many
-        ([51, 0, 0, 0, 2, 0, 0, 0, 0, 0].as_slice(), 9, 1, Some(8)),
-        ([51, 0, 0, 0, 2, 0, 0, 0, 0, 0].as_slice(), 4, 1, Some(9)),
-        ([51, 0, 0, 0, 2, 0, 0, 0, 0, 0].as_slice(), 4, 3, Some(8)),
-        ([9, 0, 0, 0].as_slice(), 0, 9, None),
-    ] {
-        let bytes = changed(rt.alloc(), payload, place, b)?;
-        assert_eq!(rt; stops(rt.alloc(), &bytes)?, wanted, "{b} at {place}");
+    for (payload, place, b, wanted) in &FAULTS {
+        let stop = stops_with(rt.alloc(), payload, *place, *b)?;
+        assert_eq!(rt; stop, *wanted, "{b} at {place}");
     }
     Ok(())
 }
@@ -183,17 +166,19 @@ fn told(key: &CellKey, value: &CellValue) -> (u64, u64) {
     (key, value)
 }
 
+const DIR: u64 = 1_099_511_627_776;
+
+static WRITES: [(u64, u64); 5] = [(44, DIR), (20, DIR + 1), (11, 2), (1, 2), (10 + DIR, 1)];
+
 #[test]
 fn a_mkdir_writes_five_cells(rt: HostRuntime) -> Result<(), Fail> {
     let Ok(event) = event_read(rt.alloc(), &MKDIR) else {
         return Err(Fail::from("an event was refused"));
     };
     let ws = writes(rt.alloc(), &event)?;
-    let dir = 1_099_511_627_776;
-    let wanted = [(44, dir), (20, dir + 1), (11, 2), (1, 2), (10 + dir, 1)];
-    assert_eq!(rt; ws.len(), wanted.len());
-    for (w, wanted) in ws.iter().zip(wanted) {
-        assert_eq!(rt; told(&w.key, &w.value), wanted);
+    assert_eq!(rt; ws.len(), WRITES.len());
+    for (w, wanted) in ws.iter().zip(&WRITES) {
+        assert_eq!(rt; told(&w.key, &w.value), *wanted);
     }
     Ok(())
 }

@@ -1,80 +1,54 @@
 //! The order of cells, and the last write of each key.
 
-use mj_cells::{CellKey, CellTable, CellValue, CellWrite};
 use mj_base::{ClientId, Ino, Kind, Name, Tid};
+use mj_cells::{CellKey, CellTable, CellValue, CellWrite};
 use std::alloc::{AllocError, Global};
 use std::test::Fail;
 
-fn name(alloc: Global, text: &[u8]) -> Result<Name, Fail> {
-    match Name::read(alloc, text) {
-        Ok(name) => Ok(name),
-        Err(_) => Err(Fail::from("a name was refused")),
-    }
+fn put(alloc: Global, table: &mut CellTable, key: CellKey, value: CellValue) -> Result<(), Fail> {
+    Ok(table.put(alloc, CellWrite { key, value })?)
+}
+
+fn put_number(alloc: Global, table: &mut CellTable, key: CellKey, n: u64) -> Result<(), Fail> {
+    put(alloc, table, key, CellValue::Number(n))
+}
+
+// A dentry of the root.
+fn put_name(
+    alloc: Global,
+    table: &mut CellTable,
+    name: &[u8],
+    value: CellValue,
+) -> Result<(), Fail> {
+    let name = Name::read(alloc, name)?;
+    put(alloc, table, CellKey::Dentry(Ino(1), name), value)
+}
+
+fn fill_dentries(alloc: Global, table: &mut CellTable) -> Result<(), Fail> {
+    put_name(alloc, table, b"b", CellValue::Null(2))?;
+    put_name(
+        alloc,
+        table,
+        b"ab",
+        CellValue::Remote(1, Ino(9), Kind::File),
+    )
 }
 
 // Cells of each kind, out of order, with a number by which each is told.
 fn fill(alloc: Global, table: &mut CellTable) -> Result<(), Fail> {
     let client = ClientId(4);
-    let gone = CellValue::Gone;
-    table.put(
+    put(
         alloc,
-        CellWrite {
-            key: CellKey::OpenOf(client, Ino(9)),
-            value: CellValue::Present,
-        },
+        table,
+        CellKey::OpenOf(client, Ino(9)),
+        CellValue::Present,
     )?;
-    table.put(
-        alloc,
-        CellWrite {
-            key: CellKey::Done(client, Tid(2)),
-            value: CellValue::Number(6),
-        },
-    )?;
-    table.put(
-        alloc,
-        CellWrite {
-            key: CellKey::Session(client),
-            value: CellValue::Number(5),
-        },
-    )?;
-    table.put(
-        alloc,
-        CellWrite {
-            key: CellKey::NextIno,
-            value: CellValue::Number(4),
-        },
-    )?;
-    table.put(
-        alloc,
-        CellWrite {
-            key: CellKey::DirHead(Ino(1)),
-            value: CellValue::Number(3),
-        },
-    )?;
-    let b = CellKey::Dentry(Ino(1), name(alloc, b"b")?);
-    table.put(
-        alloc,
-        CellWrite {
-            key: b,
-            value: CellValue::Null(2),
-        },
-    )?;
-    let ab = CellKey::Dentry(Ino(1), name(alloc, b"ab")?);
-    table.put(
-        alloc,
-        CellWrite {
-            key: ab,
-            value: CellValue::Remote(1, Ino(9), Kind::File),
-        },
-    )?;
-    table.put(
-        alloc,
-        CellWrite {
-            key: CellKey::DirHead(Ino(2)),
-            value: gone,
-        },
-    )?;
-    Ok(())
+    put_number(alloc, table, CellKey::Done(client, Tid(2)), 6)?;
+    put_number(alloc, table, CellKey::Session(client), 5)?;
+    put_number(alloc, table, CellKey::NextIno, 4)?;
+    put_number(alloc, table, CellKey::DirHead(Ino(1)), 3)?;
+    fill_dentries(alloc, table)?;
+    put(alloc, table, CellKey::DirHead(Ino(2)), CellValue::Gone)
 }
 
 // By which number a value is told.
@@ -118,11 +92,9 @@ fn the_last_write_of_a_key_stands(rt: HostRuntime) -> Result<(), Fail> {
     let alloc = rt.alloc();
     let mut table = CellTable::new(alloc);
     fill(alloc, &mut table)?;
-    let head = CellKey::DirHead(Ino(3));
-    for (key, n) in [(CellKey::NextIno, 40), (head, 8), (CellKey::NextIno, 41)] {
-        let value = CellValue::Number(n);
-        table.put(alloc, CellWrite { key, value })?;
-    }
+    put_number(alloc, &mut table, CellKey::NextIno, 40)?;
+    put_number(alloc, &mut table, CellKey::DirHead(Ino(3)), 8)?;
+    put_number(alloc, &mut table, CellKey::NextIno, 41)?;
     table.drop_key(&CellKey::Session(ClientId(4)));
     assert_eq!(rt; table.get(&CellKey::NextIno).map(told), Some(41));
     assert_eq!(rt; table.get(&CellKey::DirHead(Ino(3))).map(told), Some(8));
