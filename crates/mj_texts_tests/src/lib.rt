@@ -1,8 +1,6 @@
-//! Tests of `mj_texts`, `mj_model` and `mj_lines`.
+//! Tests of `mj_texts` and `mj_model`.
 #![tactic(auto)]
 
-#[cfg(test)]
-mod lines;
 #[cfg(test)]
 mod model;
 #[cfg(test)]
