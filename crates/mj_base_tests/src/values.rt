@@ -27,13 +27,13 @@ fn other_bytes_are_no_name(rt: HostRuntime) {
     assert_eq!(rt; name_refusal(alloc, &long), Some(NameRefusal::TooLong(256)));
 }
 
-fn copied_name(alloc: Global, bytes: &[u8]) -> Result<Name, Fail> {
+fn copied_name(alloc: Global, bytes: &[u8]) -> Result<Name, NameRefusal> {
     let name = Name::read(alloc, bytes)?;
     Ok(name.copy(alloc)?)
 }
 
 // Whether the copy of a name is that name, and has its bytes.
-fn is_kept(alloc: Global, bytes: &[u8]) -> Result<bool, Fail> {
+fn is_kept(alloc: Global, bytes: &[u8]) -> Result<bool, NameRefusal> {
     let copy = copied_name(alloc, bytes)?;
     let name = Name::read(alloc, bytes)?;
     Ok(copy.as_slice() == bytes && name == copy)
@@ -42,20 +42,23 @@ fn is_kept(alloc: Global, bytes: &[u8]) -> Result<bool, Fail> {
 static NAMES: [&[u8]; 3] = [b"a", b"...", b"\xff \n"];
 
 #[test]
-fn a_name_keeps_its_bytes(rt: HostRuntime) -> Result<(), Fail> {
+fn a_name_keeps_its_bytes(rt: HostRuntime) {
     for bytes in &NAMES {
-        assert!(rt; is_kept(rt.alloc(), bytes)?, "{bytes:?}");
+        assert_eq!(rt; is_kept(rt.alloc(), bytes), Ok(true), "{bytes:?}");
     }
-    assert!(rt; is_kept(rt.alloc(), &[b'a'; 255])?);
-    Ok(())
+    assert_eq!(rt; is_kept(rt.alloc(), &[b'a'; 255]), Ok(true));
+}
+
+// Whether a name stands before another.
+fn is_before(alloc: Global, first: &[u8], second: &[u8]) -> Result<bool, NameRefusal> {
+    let first = Name::read(alloc, first)?;
+    let second = Name::read(alloc, second)?;
+    Ok(first < second)
 }
 
 #[test]
-fn names_go_by_their_bytes(rt: HostRuntime) -> Result<(), Fail> {
-    let short = Name::read(rt.alloc(), b"a")?;
-    let long = Name::read(rt.alloc(), b"a\x01")?;
-    assert!(rt; short < long);
-    Ok(())
+fn names_go_by_their_bytes(rt: HostRuntime) {
+    assert_eq!(rt; is_before(rt.alloc(), b"a", b"a\x01"), Ok(true));
 }
 
 // A path of this many names.
@@ -96,13 +99,13 @@ fn other_texts_are_no_path(rt: HostRuntime) -> Result<(), Fail> {
     Ok(())
 }
 
-fn copied_path(alloc: Global, text: &[u8]) -> Result<Path, Fail> {
+fn copied_path(alloc: Global, text: &[u8]) -> Result<Path, PathRefusal> {
     let path = Path::read(alloc, text)?;
     Ok(path.copy(alloc)?)
 }
 
 // Whether the copy of a path has this text again, and so many names.
-fn is_spelled_again(alloc: Global, text: &[u8], depth: usize) -> Result<bool, Fail> {
+fn is_spelled_again(alloc: Global, text: &[u8], depth: usize) -> Result<bool, PathRefusal> {
     let path = copied_path(alloc, text)?;
     let mut out = Vec::new(alloc);
     path.append_text(&mut out)?;
@@ -115,10 +118,10 @@ static PATHS: [(&[u8], usize); 3] = [(b"/", 0), (b"/a", 1), (b"/a/b%20c/%25%7f%c
 fn a_path_has_one_text(rt: HostRuntime) -> Result<(), Fail> {
     let alloc = rt.alloc();
     for (text, depth) in &PATHS {
-        assert!(rt; is_spelled_again(alloc, text, *depth)?, "{text:?}");
+        assert_eq!(rt; is_spelled_again(alloc, text, *depth), Ok(true), "{text:?}");
     }
     let long = deep(alloc, 64)?;
-    assert!(rt; is_spelled_again(alloc, &long, 64)?);
+    assert_eq!(rt; is_spelled_again(alloc, &long, 64), Ok(true));
     Ok(())
 }
 
@@ -156,18 +159,18 @@ fn other_bytes_are_no_target(rt: HostRuntime) -> Result<(), Fail> {
     Ok(())
 }
 
-fn copied_target(alloc: Global, bytes: &[u8]) -> Result<Target, Fail> {
+// Whether the copy of a target has its bytes.
+fn is_copied(alloc: Global, bytes: &[u8]) -> Result<bool, TargetRefusal> {
     let target = Target::read(alloc, bytes)?;
-    Ok(target.copy(alloc)?)
+    let copy = target.copy(alloc)?;
+    Ok(copy.as_slice() == bytes)
 }
 
 #[test]
 fn a_target_keeps_its_bytes(rt: HostRuntime) -> Result<(), Fail> {
-    let alloc = rt.alloc();
-    let long = Vec::from_elem(alloc, b'a', 4_095)?;
-    let target = copied_target(alloc, &long)?;
-    assert_eq!(rt; target.as_slice(), long.as_slice());
-    assert_eq!(rt; Target::empty(alloc).as_slice(), b"".as_slice());
+    let long = Vec::from_elem(rt.alloc(), b'a', 4_095)?;
+    assert_eq!(rt; is_copied(rt.alloc(), &long), Ok(true));
+    assert_eq!(rt; Target::empty(rt.alloc()).as_slice(), b"".as_slice());
     Ok(())
 }
 
@@ -190,9 +193,9 @@ static TABLES: [(u8, bool, &[u8]); 4] = [
     (9, false, b"mds9_sessionmap"),
 ];
 
-fn table_of(rank: u8, of_inodes: bool) -> Result<ObjectName, Fail> {
-    let rank = RankNo::new(rank).ok_or("a rank")?;
-    Ok(if of_inodes {
+fn table_of(rank: u8, of_inodes: bool) -> Option<ObjectName> {
+    let rank = RankNo::new(rank)?;
+    Some(if of_inodes {
         ObjectName::InoTable(rank)
     } else {
         ObjectName::SessionMap(rank)
@@ -200,30 +203,48 @@ fn table_of(rank: u8, of_inodes: bool) -> Result<ObjectName, Fail> {
 }
 
 // Whether an object's name has this text, and is read from it.
-fn is_spelled(alloc: Global, name: ObjectName, text: &[u8]) -> Result<bool, Fail> {
+fn is_spelled(alloc: Global, name: ObjectName, text: &[u8]) -> Result<bool, AllocError> {
     let spelled = name.text(alloc)?;
     Ok(spelled.as_slice() == text && ObjectName::read(text) == Some(name))
 }
 
+fn file(ino: u64, index: u64) -> ObjectName {
+    ObjectName::File { ino, index }
+}
+
 #[test]
-fn objects_have_their_texts_in_order(rt: HostRuntime) -> Result<(), Fail> {
-    let mut before = None;
+fn objects_have_their_texts(rt: HostRuntime) {
     for (ino, index, text) in &FILES {
-        let name = ObjectName::File {
-            ino: *ino,
-            index: *index,
-        };
-        assert!(rt; is_spelled(rt.alloc(), name, text)?, "{text:?}");
-        assert!(rt; before < Some(name), "{text:?}");
-        before = Some(name);
+        let spelled = is_spelled(rt.alloc(), file(*ino, *index), text);
+        assert_eq!(rt; spelled, Ok(true), "{text:?}");
     }
     for (rank, of_inodes, text) in &TABLES {
-        let name = table_of(*rank, *of_inodes)?;
-        assert!(rt; is_spelled(rt.alloc(), name, text)?, "{text:?}");
-        assert!(rt; before < Some(name), "{text:?}");
-        before = Some(name);
+        match table_of(*rank, *of_inodes) {
+            Some(name) => {
+                assert_eq!(rt; is_spelled(rt.alloc(), name, text), Ok(true), "{text:?}")
+            }
+            None => assert!(rt; false, "{text:?}"),
+        }
     }
-    Ok(())
+}
+
+// Whether the object of a text stands before that of another.
+fn goes_before(first: &[u8], second: &[u8]) -> bool {
+    match (ObjectName::read(first), ObjectName::read(second)) {
+        (Some(first), Some(second)) => first < second,
+        _ => false,
+    }
+}
+
+#[test]
+fn objects_stand_in_order(rt: HostRuntime) {
+    for pair in FILES.windows(2) {
+        assert!(rt; goes_before(pair[0].2, pair[1].2), "{:?}", pair[1].2);
+    }
+    assert!(rt; goes_before(b"ffffffffffffffff.ffffffffffffffff", b"mds0_inotable"));
+    for pair in TABLES.windows(2) {
+        assert!(rt; goes_before(pair[0].2, pair[1].2), "{:?}", pair[1].2);
+    }
 }
 
 static NO_OBJECTS: [&[u8]; 11] = [
@@ -286,20 +307,6 @@ fn numbers_are_read(rt: HostRuntime) {
 const RECORD: [u8; 46] =
     *b"\x01\0\0\0\0\0\x01\0\0\x01\xed\x01\0\0\0\0\0\0\0\0\0\0\0\0\0\0\0\0\x65\0\0\0\0\0\0\0\x01\0\0\0\0\0rest";
 
-fn made(alloc: Global) -> InodeRecord {
-    InodeRecord {
-        ino: Ino(0x100_0000_0000),
-        kind: Kind::Dir,
-        mode: 0o755,
-        uid: 0,
-        gid: 0,
-        size: 0,
-        mtime: 101,
-        links: 1,
-        target: Target::empty(alloc),
-    }
-}
-
 #[test]
 fn a_record_is_read(rt: HostRuntime) -> Result<(), Fail> {
     let alloc = rt.alloc();
@@ -313,8 +320,19 @@ fn a_record_is_read(rt: HostRuntime) -> Result<(), Fail> {
 
 #[test]
 fn a_record_is_written(rt: HostRuntime) -> Result<(), Fail> {
+    let made = InodeRecord {
+        ino: Ino(0x100_0000_0000),
+        kind: Kind::Dir,
+        mode: 0o755,
+        uid: 0,
+        gid: 0,
+        size: 0,
+        mtime: 101,
+        links: 1,
+        target: Target::empty(rt.alloc()),
+    };
     let mut out = Vec::new(rt.alloc());
-    record_write(&made(rt.alloc()), &mut out)?;
+    record_write(&made, &mut out)?;
     assert_eq!(rt; out.as_slice(), &RECORD[..42]);
     Ok(())
 }
