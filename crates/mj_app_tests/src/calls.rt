@@ -25,7 +25,13 @@ fn words_of(alloc: Global, given: &[&str]) -> Result<Vec<String>, Fail> {
 }
 
 // Whether a call with these words over the files has this status and this text.
-fn says(alloc: Global, files: &mut MemFiles, given: &[&str], want: u8, text: &[u8]) -> Result<bool, Fail> {
+fn says(
+    alloc: Global,
+    files: &mut MemFiles,
+    given: &[&str],
+    want: u8,
+    text: &[u8],
+) -> Result<bool, Fail> {
     let words = words_of(alloc, given)?;
     let mut out = MemSink::new(alloc, &[])?;
     let status = mdjournal_image_call(alloc, &words, files, &mut out);
@@ -34,7 +40,11 @@ fn says(alloc: Global, files: &mut MemFiles, given: &[&str], want: u8, text: &[u
 
 static CALLS: [(&[&str], u8, &[u8]); 3] = [
     (&["i", "format"], 0, b"formatted 0 4194304\n"),
-    (&["i", "play", "s"], 0, b"1: mounted 1 4194304\n2: tree\n/\n"),
+    (
+        &["i", "play", "s"],
+        0,
+        b"1: mounted 1 4194304\n2: tree\n/\n",
+    ),
     (&["i", "format"], 3, b"refused formatted\n"),
 ];
 
@@ -42,7 +52,10 @@ static CALLS: [(&[&str], u8, &[u8]); 3] = [
 fn calls_follow_one_another_over_an_image(rt: HostRuntime) -> Result<(), Fail> {
     let mut files = with_script(rt.alloc(), &[], b"mount\ntree\n")?;
     for (given, want, text) in &CALLS {
-        assert!(rt; says(rt.alloc(), &mut files, given, *want, text)?, "{given:?}");
+        assert!(rt;
+            says(rt.alloc(), &mut files, given, *want, text)?,
+            "{given:?}"
+        );
     }
     Ok(())
 }
@@ -51,7 +64,15 @@ fn calls_follow_one_another_over_an_image(rt: HostRuntime) -> Result<(), Fail> {
 fn a_run_goes_over_a_formatted_image(rt: HostRuntime) -> Result<(), Fail> {
     let alloc = rt.alloc();
     let mut files = with_script(alloc, &[], RUN)?;
-    assert!(rt; says(alloc, &mut files, &["j", "format"], 0, b"formatted 0 4194304\n")?);
+    assert!(rt;
+        says(
+            alloc,
+            &mut files,
+            &["j", "format"],
+            0,
+            b"formatted 0 4194304\n"
+        )?
+    );
     assert!(rt; says(alloc, &mut files, &["j", "play", "s"], 0, TOLD)?);
     Ok(())
 }
@@ -168,9 +189,7 @@ static IMAGES: [(Option<&[u8]>, &[u8], &[&str], u8, &[u8]); 12] = [
         b"image BadFlag 32\n",
     ),
     (
-        Some(
-            b"MJIMG001\x02\0\0\0\x0a\x001.00000000\0\0\0\0\0\0\0\0\0\0\0\0\0\x0a\x001.00000000",
-        ),
+        Some(b"MJIMG001\x02\0\0\0\x0a\x001.00000000\0\0\0\0\0\0\0\0\0\0\0\0\0\x0a\x001.00000000"),
         RUN,
         &["i", "format"],
         1,
@@ -205,7 +224,10 @@ fn the_image_is_read_first_and_written_last(rt: HostRuntime) -> Result<(), Fail>
     for (image, script, given, want, text) in &IMAGES {
         let mut files = with_image(alloc, *image, script)?;
         assert!(rt; says(alloc, &mut files, given, *want, text)?, "{given:?}");
-        assert!(rt; is_image(alloc, &mut files, image.unwrap_or(EMPTY_IMAGE))?, "{given:?}");
+        assert!(rt;
+            is_image(alloc, &mut files, image.unwrap_or(EMPTY_IMAGE))?,
+            "{given:?}"
+        );
     }
     Ok(())
 }
@@ -374,7 +396,10 @@ fn scripts_are_played_over_a_formatted_image(rt: HostRuntime) -> Result<(), Fail
     let alloc = rt.alloc();
     for (format, formatted, script, want) in &RUNS {
         let mut files = MemFiles::new(alloc, &[])?;
-        assert!(rt; says(alloc, &mut files, format, 0, formatted)?, "{format:?}");
+        assert!(rt;
+            says(alloc, &mut files, format, 0, formatted)?,
+            "{format:?}"
+        );
         assert!(rt; is_told(alloc, &mut files, script, want)?, "{format:?}");
     }
     Ok(())

@@ -1,6 +1,6 @@
 // Scripts that are read and refused, and the texts of answers.
-use mj_lines::{Answer, Line, ScriptRefusal, append_turn, read_line, read_script};
 use mj_base::{ClientId, Damage, Ino, Items, ObjectName, OpNo};
+use mj_lines::{Answer, Line, ScriptRefusal, append_turn, read_line, read_script};
 use mj_rank::{Early, Reaped, Span};
 use mj_tree::Reply;
 use mj_world::Step;
@@ -156,6 +156,9 @@ fn turns_follow_one_another(rt: HostRuntime) -> Result<(), Fail> {
     let mut text = Vec::new(rt.alloc());
     append_turn(1, &Answer::Restarted, &mut text)?;
     append_turn(12, &Answer::Restarted, &mut text)?;
-    assert_eq!(rt; text.as_slice(), b"1: restarted\n12: restarted\n".as_slice());
+    assert_eq!(rt;
+        text.as_slice(),
+        b"1: restarted\n12: restarted\n".as_slice()
+    );
     Ok(())
 }

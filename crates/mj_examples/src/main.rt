@@ -16,19 +16,16 @@ static EXAMPLES: [Example; 6] = [
     ("02_a_rename_over_a_link", &[]),
     ("03_a_stop_before_the_flush", &[]),
     ("04_a_repeated_request", &[]),
-    ("05_writes_out_of_order", &["--su=4096", "--sc=2", "--os=65536"]),
+    (
+        "05_writes_out_of_order",
+        &["--su=4096", "--sc=2", "--os=65536"],
+    ),
     ("06_what_is_refused", &[]),
 ];
 
 fn main(rt: HostRuntime) -> io::Result<()> {
     let mut files = HostFiles::new(&rt);
     for (name, options) in &EXAMPLES {
-        if let Ok(script) = read(rt.alloc(), &mut files, name, "txt") {
-            if let Ok(told) = played(rt.alloc(), &script, options) {
-                println!(rt; "=== {name}")?;
-                println!(rt; "{}", str::from_utf8(told.taken()).unwrap_or("no text"))?;
-            }
-        }
         match difference(rt.alloc(), &mut files, name, options) {
             Ok(None) => println!(rt; "{name} as stored")?,
             Ok(Some(line)) => println!(rt; "{name} differs at line {line}")?,
