@@ -1,66 +1,127 @@
 //! Names, paths, object names and records by their tables.
 
 use mj_base::*;
+use std::alloc::{AllocError, Global};
 use std::test::Fail;
 
+// Why bytes are no name.
+fn name_refusal(alloc: Global, bytes: &[u8]) -> Option<NameRefusal> {
+    Name::read(alloc, bytes).err()
+}
+
+static NO_NAMES: [(&[u8], NameRefusal); 5] = [
+    (b"", NameRefusal::Empty),
+    (b"a/b\0", NameRefusal::BadByte(1)),
+    (b"..\0", NameRefusal::BadByte(2)),
+    (b".", NameRefusal::Dots),
+    (b"..", NameRefusal::Dots),
+];
+
 #[test]
-fn names(rt: HostRuntime) -> Result<(), Fail> {
+fn other_bytes_are_no_name(rt: HostRuntime) {
     let alloc = rt.alloc();
-    let long = vec![in alloc; b'a'; 256]?;
-    for (bytes, want) in [
-        (b"".as_slice(), NameRefusal::Empty),
-        (long.as_slice(), NameRefusal::TooLong(256)),
-        (b"a/b\0", NameRefusal::BadByte(1)),
-        (b"..\0", NameRefusal::BadByte(2)),
-        (b".", NameRefusal::Dots),
-        (b"..", NameRefusal::Dots),
-    ] {
-        assert_eq!(rt; Name::read(alloc, bytes).err(), Some(want), "{bytes:?}");
+    for (bytes, want) in &NO_NAMES {
+        assert_eq!(rt; name_refusal(alloc, bytes), Some(*want), "{bytes:?}");
     }
-    for bytes in [b"a".as_slice(), b"...", b"\xff \n", &long[1..]] {
-        let name = Name::read(alloc, bytes)?;
-        assert_eq!(rt; name.copy(alloc)?.as_slice(), bytes);
-        assert!(rt; name == name.copy(alloc)?);
+    let long = [b'a'; 256];
+    assert_eq!(rt; name_refusal(alloc, &long), Some(NameRefusal::TooLong(256)));
+}
+
+fn copied_name(alloc: Global, bytes: &[u8]) -> Result<Name, NameRefusal> {
+    let name = Name::read(alloc, bytes)?;
+    Ok(name.copy(alloc)?)
+}
+
+// Whether the copy of a name is that name, and has its bytes.
+fn is_kept(alloc: Global, bytes: &[u8]) -> Result<bool, NameRefusal> {
+    let copy = copied_name(alloc, bytes)?;
+    let name = Name::read(alloc, bytes)?;
+    Ok(copy.as_slice() == bytes && name == copy)
+}
+
+static NAMES: [&[u8]; 3] = [b"a", b"...", b"\xff \n"];
+
+#[test]
+fn a_name_keeps_its_bytes(rt: HostRuntime) {
+    for bytes in &NAMES {
+        assert_eq!(rt; is_kept(rt.alloc(), bytes), Ok(true), "{bytes:?}");
     }
-    assert!(rt; Name::read(alloc, b"a")? < Name::read(alloc, b"a\x01")?);
-    Ok(())
+    assert_eq!(rt; is_kept(rt.alloc(), &[b'a'; 255]), Ok(true));
+}
+
+// Whether a name stands before another.
+fn is_before(alloc: Global, first: &[u8], second: &[u8]) -> Result<bool, NameRefusal> {
+    let first = Name::read(alloc, first)?;
+    let second = Name::read(alloc, second)?;
+    Ok(first < second)
 }
 
 #[test]
-fn paths(rt: HostRuntime) -> Result<(), Fail> {
+fn names_go_by_their_bytes(rt: HostRuntime) {
+    assert_eq!(rt; is_before(rt.alloc(), b"a", b"a\x01"), Ok(true));
+}
+
+// A path of this many names.
+fn deep(alloc: Global, depth: usize) -> Result<Vec<u8>, AllocError> {
+    let mut text = Vec::new(alloc);
+    for _ in 0..depth {
+        text.extend_from_slice(b"/d")?;
+    }
+    Ok(text)
+}
+
+fn path_refusal(alloc: Global, text: &[u8]) -> Option<PathRefusal> {
+    Path::read(alloc, text).err()
+}
+
+static NO_PATHS: [(&[u8], PathRefusal); 11] = [
+    (b"", PathRefusal::NoSlash),
+    (b"a", PathRefusal::NoSlash),
+    (b"/a%2f", PathRefusal::BadEscape(2)),
+    (b"/a%61", PathRefusal::BadEscape(2)),
+    (b"/%C3", PathRefusal::BadEscape(1)),
+    (b"/a//%4", PathRefusal::BadEscape(4)),
+    (b"/a b", PathRefusal::BadEscape(2)),
+    (b"/a//b", PathRefusal::BadName(1, NameRefusal::Empty)),
+    (b"/a/", PathRefusal::BadName(1, NameRefusal::Empty)),
+    (b"/../%00", PathRefusal::BadName(0, NameRefusal::Dots)),
+    (b"/%00", PathRefusal::BadName(0, NameRefusal::BadByte(0))),
+];
+
+#[test]
+fn other_texts_are_no_path(rt: HostRuntime) -> Result<(), Fail> {
     let alloc = rt.alloc();
-    let mut deep = [b'd'; 130];
-    for i in 0..65 {
-        deep[2 * i] = b'/';
+    for (text, want) in &NO_PATHS {
+        assert_eq!(rt; path_refusal(alloc, text), Some(*want), "{text:?}");
     }
-    for (text, want) in [
-        (b"".as_slice(), PathRefusal::NoSlash),
-        (b"a", PathRefusal::NoSlash),
-        (b"/a%2f", PathRefusal::BadEscape(2)),
-        (b"/a%61", PathRefusal::BadEscape(2)),
-        (b"/%C3", PathRefusal::BadEscape(1)),
-        (b"/a//%4", PathRefusal::BadEscape(4)),
-        (b"/a b", PathRefusal::BadEscape(2)),
-        (b"/a//b", PathRefusal::BadName(1, NameRefusal::Empty)),
-        (b"/a/", PathRefusal::BadName(1, NameRefusal::Empty)),
-        (b"/../%00", PathRefusal::BadName(0, NameRefusal::Dots)),
-        (b"/%00", PathRefusal::BadName(0, NameRefusal::BadByte(0))),
-        (deep.as_slice(), PathRefusal::TooDeep(65)),
-    ] {
-        assert_eq!(rt; Path::read(alloc, text).err(), Some(want), "{text:?}");
+    let long = deep(alloc, 65)?;
+    assert_eq!(rt; path_refusal(alloc, &long), Some(PathRefusal::TooDeep(65)));
+    Ok(())
+}
+
+fn copied_path(alloc: Global, text: &[u8]) -> Result<Path, PathRefusal> {
+    let path = Path::read(alloc, text)?;
+    Ok(path.copy(alloc)?)
+}
+
+// Whether the copy of a path has this text again, and so many names.
+fn is_spelled_again(alloc: Global, text: &[u8], depth: usize) -> Result<bool, PathRefusal> {
+    let path = copied_path(alloc, text)?;
+    let mut out = Vec::new(alloc);
+    path.append_text(&mut out)?;
+    Ok(out.as_slice() == text && path.names().len() == depth)
+}
+
+static PATHS: [(&[u8], usize); 3] = [(b"/", 0), (b"/a", 1), (b"/a/b%20c/%25%7f%c3~!", 3)];
+
+#[test]
+fn a_path_has_one_text(rt: HostRuntime) -> Result<(), Fail> {
+    let alloc = rt.alloc();
+    for (text, depth) in &PATHS {
+        assert_eq!(rt; is_spelled_again(alloc, text, *depth), Ok(true), "{text:?}");
     }
-    for (text, depth) in [
-        (b"/".as_slice(), 0),
-        (b"/a", 1),
-        (b"/a/b%20c/%25%7f%c3~!", 3),
-        (&deep[2..], 64),
-    ] {
-        let path = Path::read(alloc, text)?.copy(alloc)?;
-        let mut out = Vec::new(alloc);
-        path.append_text(&mut out)?;
-        assert_eq!(rt; out.as_slice(), text);
-        assert_eq!(rt; path.names().len(), depth);
-    }
+    let long = deep(alloc, 64)?;
+    assert_eq!(rt; is_spelled_again(alloc, &long, 64), Ok(true));
     Ok(())
 }
 
@@ -78,104 +139,151 @@ fn texts(rt: HostRuntime) -> Result<(), Fail> {
     Ok(())
 }
 
+fn target_refusal(alloc: Global, bytes: &[u8]) -> Option<TargetRefusal> {
+    Target::read(alloc, bytes).err()
+}
+
 #[test]
-fn targets(rt: HostRuntime) -> Result<(), Fail> {
+fn other_bytes_are_no_target(rt: HostRuntime) -> Result<(), Fail> {
     let alloc = rt.alloc();
-    let long = vec![in alloc; b'a'; 4096]?;
-    for (bytes, want) in [
-        (b"".as_slice(), TargetRefusal::Empty),
-        (long.as_slice(), TargetRefusal::TooLong(4096)),
-        (b"a\0", TargetRefusal::BadByte(1)),
-    ] {
-        assert_eq!(rt; Target::read(alloc, bytes).err(), Some(want));
-    }
-    let target = Target::read(alloc, &long[1..])?;
-    assert_eq!(rt; target.copy(alloc)?.as_slice(), &long[1..]);
-    assert_eq!(rt; Target::empty(alloc).as_slice(), b"".as_slice());
+    let long = Vec::from_elem(alloc, b'a', 4_096)?;
+    assert_eq!(rt; target_refusal(alloc, b""), Some(TargetRefusal::Empty));
+    assert_eq!(rt;
+        target_refusal(alloc, &long),
+        Some(TargetRefusal::TooLong(4_096))
+    );
+    assert_eq!(rt;
+        target_refusal(alloc, b"a\0"),
+        Some(TargetRefusal::BadByte(1))
+    );
     Ok(())
 }
 
-// The order is that of the texts: `mds..` behind every hexadecimal number, 0x200 before 0x3.
+// Whether the copy of a target has its bytes.
+fn is_copied(alloc: Global, bytes: &[u8]) -> Result<bool, TargetRefusal> {
+    let target = Target::read(alloc, bytes)?;
+    let copy = target.copy(alloc)?;
+    Ok(copy.as_slice() == bytes)
+}
+
 #[test]
-fn objects(rt: HostRuntime) -> Result<(), Fail> {
-    let alloc = rt.alloc();
-    let rank = |n| RankNo::new(n).ok_or("a rank");
-    let all = [
-        (
-            ObjectName::File { ino: 0, index: 0 },
-            b"0.00000000".as_slice(),
-        ),
-        (ObjectName::File { ino: 1, index: 0 }, b"1.00000000"),
-        (
-            ObjectName::File {
-                ino: 0x100_0000_0000,
-                index: 0,
-            },
-            b"10000000000.00000000",
-        ),
-        (
-            ObjectName::File {
-                ino: 0x200,
-                index: 7,
-            },
-            b"200.00000007",
-        ),
-        (
-            ObjectName::File {
-                ino: 0x200,
-                index: 0x1_0000_0000,
-            },
-            b"200.100000000",
-        ),
-        (ObjectName::File { ino: 3, index: 0 }, b"3.00000000"),
-        (
-            ObjectName::File {
-                ino: u64::MAX,
-                index: u64::MAX,
-            },
-            b"ffffffffffffffff.ffffffffffffffff",
-        ),
-        (ObjectName::InoTable(rank(0)?), b"mds0_inotable"),
-        (ObjectName::SessionMap(rank(0)?), b"mds0_sessionmap"),
-        (ObjectName::InoTable(rank(15)?), b"mds15_inotable"),
-        (ObjectName::SessionMap(rank(9)?), b"mds9_sessionmap"),
-    ];
-    for (name, text) in &all {
-        assert_eq!(rt; name.text(alloc)?.as_slice(), *text);
-        assert_eq!(rt; ObjectName::read(text).as_ref(), Some(name));
+fn a_target_keeps_its_bytes(rt: HostRuntime) -> Result<(), Fail> {
+    let long = Vec::from_elem(rt.alloc(), b'a', 4_095)?;
+    assert_eq!(rt; is_copied(rt.alloc(), &long), Ok(true));
+    assert_eq!(rt; Target::empty(rt.alloc()).as_slice(), b"".as_slice());
+    Ok(())
+}
+
+// Object names of files in the order of their texts: 0x200 before 0x3.
+static FILES: [(u64, u64, &[u8]); 7] = [
+    (0, 0, b"0.00000000"),
+    (1, 0, b"1.00000000"),
+    (0x100_0000_0000, 0, b"10000000000.00000000"),
+    (0x200, 7, b"200.00000007"),
+    (0x200, 0x1_0000_0000, b"200.100000000"),
+    (3, 0, b"3.00000000"),
+    (u64::MAX, u64::MAX, b"ffffffffffffffff.ffffffffffffffff"),
+];
+
+// And behind every file the tables of ranks: the number of one, and whether it is that of its inodes.
+static TABLES: [(u8, bool, &[u8]); 4] = [
+    (0, true, b"mds0_inotable"),
+    (0, false, b"mds0_sessionmap"),
+    (15, true, b"mds15_inotable"),
+    (9, false, b"mds9_sessionmap"),
+];
+
+fn table_of(rank: u8, of_inodes: bool) -> Option<ObjectName> {
+    let rank = RankNo::new(rank)?;
+    Some(if of_inodes {
+        ObjectName::InoTable(rank)
+    } else {
+        ObjectName::SessionMap(rank)
+    })
+}
+
+// Whether an object's name has this text, and is read from it.
+fn is_spelled(alloc: Global, name: ObjectName, text: &[u8]) -> Result<bool, AllocError> {
+    let spelled = name.text(alloc)?;
+    Ok(spelled.as_slice() == text && ObjectName::read(text) == Some(name))
+}
+
+fn file(ino: u64, index: u64) -> ObjectName {
+    ObjectName::File { ino, index }
+}
+
+#[test]
+fn objects_have_their_texts(rt: HostRuntime) {
+    for (ino, index, text) in &FILES {
+        let spelled = is_spelled(rt.alloc(), file(*ino, *index), text);
+        assert_eq!(rt; spelled, Ok(true), "{text:?}");
     }
-    for pair in all.windows(2) {
-        assert!(rt; pair[0].0 < pair[1].0, "{:?}", pair[1].1);
+    for (rank, of_inodes, text) in &TABLES {
+        match table_of(*rank, *of_inodes) {
+            Some(name) => {
+                assert_eq!(rt; is_spelled(rt.alloc(), name, text), Ok(true), "{text:?}")
+            }
+            None => assert!(rt; false, "{text:?}"),
+        }
     }
-    for text in [
-        b"".as_slice(),
-        b"1",
-        b"1.0000000",
-        b"01.00000000",
-        b"1.000000000",
-        b"A.00000000",
-        b"+1.00000000",
-        b"10000000000000000.00000000",
-        b"mds16_inotable",
-        b"mds00_inotable",
-        b"mds0_table",
-    ] {
+}
+
+// Whether the object of a text stands before that of another.
+fn goes_before(first: &[u8], second: &[u8]) -> bool {
+    match (ObjectName::read(first), ObjectName::read(second)) {
+        (Some(first), Some(second)) => first < second,
+        _ => false,
+    }
+}
+
+#[test]
+fn objects_stand_in_order(rt: HostRuntime) {
+    for pair in FILES.windows(2) {
+        assert!(rt; goes_before(pair[0].2, pair[1].2), "{:?}", pair[1].2);
+    }
+    assert!(rt; goes_before(b"ffffffffffffffff.ffffffffffffffff", b"mds0_inotable"));
+    for pair in TABLES.windows(2) {
+        assert!(rt; goes_before(pair[0].2, pair[1].2), "{:?}", pair[1].2);
+    }
+}
+
+static NO_OBJECTS: [&[u8]; 11] = [
+    b"",
+    b"1",
+    b"1.0000000",
+    b"01.00000000",
+    b"1.000000000",
+    b"A.00000000",
+    b"+1.00000000",
+    b"10000000000000000.00000000",
+    b"mds16_inotable",
+    b"mds00_inotable",
+    b"mds0_table",
+];
+
+#[test]
+fn other_texts_are_no_object(rt: HostRuntime) {
+    for text in &NO_OBJECTS {
         assert_eq!(rt; ObjectName::read(text), None, "{text:?}");
     }
-    Ok(())
 }
 
+const BYTES: [u8; 15] = [1, 2, 3, 4, 5, 6, 7, 8, 9, 10, 11, 12, 13, 14, 15];
+
 #[test]
-fn numbers(rt: HostRuntime) -> Result<(), Fail> {
-    let alloc = rt.alloc();
-    let mut out = Vec::new(alloc);
+fn numbers_are_put(rt: HostRuntime) -> Result<(), Fail> {
+    let mut out = Vec::new(rt.alloc());
     put_u8(0x01, &mut out)?;
     put_u16(0x0302, &mut out)?;
     put_u32(0x0706_0504, &mut out)?;
     put_u64(0x0f0e_0d0c_0b0a_0908, &mut out)?;
-    let bytes = [1u8, 2, 3, 4, 5, 6, 7, 8, 9, 10, 11, 12, 13, 14, 15];
-    assert_eq!(rt; out.as_slice(), bytes.as_slice());
-    let mut cursor = Cursor::new(&bytes);
+    assert_eq!(rt; out.as_slice(), BYTES.as_slice());
+    Ok(())
+}
+
+#[test]
+fn numbers_are_taken(rt: HostRuntime) {
+    let mut cursor = Cursor::new(&BYTES);
     assert_eq!(rt; cursor.take_u8(), Some(0x01));
     assert_eq!(rt; cursor.take_u16(), Some(0x0302));
     assert_eq!(rt; cursor.take_u32(), Some(0x0706_0504));
@@ -183,27 +291,35 @@ fn numbers(rt: HostRuntime) -> Result<(), Fail> {
     assert_eq!(rt; cursor.read_bytes(9), Err(Fault::Left(8)));
     assert_eq!(rt; cursor.take_u64(), Some(0x0f0e_0d0c_0b0a_0908));
     assert!(rt; cursor.is_empty());
-    let mut cursor = Cursor::new(&bytes);
+}
+
+#[test]
+fn numbers_are_read(rt: HostRuntime) {
+    let mut cursor = Cursor::new(&BYTES);
     assert_eq!(rt; cursor.read_u8(), Ok(0x01));
     assert_eq!(rt; cursor.read_u16(), Ok(0x0302));
     assert_eq!(rt; cursor.read_u32(), Ok(0x0706_0504));
     assert_eq!(rt; cursor.read_u64(), Ok(0x0f0e_0d0c_0b0a_0908));
     assert_eq!(rt; cursor.read_u8(), Err(Fault::Left(0)));
-    Ok(())
 }
 
-// The record of a directory that was just made, and records with one byte changed or cut short.
+/// The record of a directory that was just made, and something behind it.
+const RECORD: [u8; 46] =
+    *b"\x01\0\0\0\0\0\x01\0\0\x01\xed\x01\0\0\0\0\0\0\0\0\0\0\0\0\0\0\0\0\x65\0\0\0\0\0\0\0\x01\0\0\0\0\0rest";
+
 #[test]
-fn records(rt: HostRuntime) -> Result<(), Fail> {
+fn a_record_is_read(rt: HostRuntime) -> Result<(), Fail> {
     let alloc = rt.alloc();
-    let bytes =
-        *b"\x01\0\0\0\0\0\x01\0\0\x01\xed\x01\0\0\0\0\0\0\0\0\0\0\0\0\0\0\0\0\x65\0\0\0\0\0\0\0\x01\0\0\0\0\0rest";
-    let mut cursor = Cursor::new(&bytes);
+    let mut cursor = Cursor::new(&RECORD);
     let inode = record_read(alloc, &mut cursor)?.copy(alloc)?;
     assert_eq!(rt; cursor.rest(), b"rest".as_slice());
     assert_eq!(rt; (inode.ino, inode.kind), (Ino(0x100_0000_0000), Kind::Dir));
     assert_eq!(rt; (inode.mode, inode.mtime, inode.links), (0o755, 101, 1));
-    let mut out = Vec::new(alloc);
+    Ok(())
+}
+
+#[test]
+fn a_record_is_written(rt: HostRuntime) -> Result<(), Fail> {
     let made = InodeRecord {
         ino: Ino(0x100_0000_0000),
         kind: Kind::Dir,
@@ -213,30 +329,44 @@ fn records(rt: HostRuntime) -> Result<(), Fail> {
         size: 0,
         mtime: 101,
         links: 1,
-        target: Target::empty(alloc),
+        target: Target::empty(rt.alloc()),
     };
+    let mut out = Vec::new(rt.alloc());
     record_write(&made, &mut out)?;
-    assert_eq!(rt; out.as_slice(), &bytes[..42]);
-    for (at, byte, len, want) in [
-        (0, 2, 46, 0),
-        (0, 1, 0, 0),
-        (0, 1, 8, 1),
-        (9, 4, 46, 9),
-        (11, 0x10, 46, 10),
-        (0, 1, 27, 20),
-        (40, 1, 46, 40),
-        (9, 3, 46, 40),
-    ] {
-        let mut wrong = bytes;
-        wrong[at] = byte;
-        let mut cursor = Cursor::new(&wrong[..len]);
-        assert_eq!(rt;
-            record_read(alloc, &mut cursor).err(),
-            Some(RecordRefusal::RecordBad(want))
-        );
-        assert_eq!(rt; cursor.left(), len);
-    }
+    assert_eq!(rt; out.as_slice(), &RECORD[..42]);
     Ok(())
+}
+
+// A byte's place, what it becomes, how many bytes there are, and where the record is then bad.
+static BAD_RECORDS: [(usize, u8, usize, u64); 8] = [
+    (0, 2, 46, 0),
+    (0, 1, 0, 0),
+    (0, 1, 8, 1),
+    (9, 4, 46, 9),
+    (11, 0x10, 46, 10),
+    (0, 1, 27, 20),
+    (40, 1, 46, 40),
+    (9, 3, 46, 40),
+];
+
+// Why the bytes are no record, and how many are left for the next reader.
+fn record_refusal(alloc: Global, bytes: &[u8]) -> (Option<RecordRefusal>, usize) {
+    let mut cursor = Cursor::new(bytes);
+    let refusal = record_read(alloc, &mut cursor).err();
+    (refusal, cursor.left())
+}
+
+#[test]
+fn a_wrong_record_is_left(rt: HostRuntime) {
+    for (at, byte, len, want) in &BAD_RECORDS {
+        let mut wrong = RECORD;
+        if let Some(place) = wrong.get_mut(*at) {
+            *place = *byte;
+        }
+        let (refusal, left) = record_refusal(rt.alloc(), wrong.get(..*len).unwrap_or(&[]));
+        assert_eq!(rt; refusal, Some(RecordRefusal::RecordBad(*want)), "at {at}");
+        assert_eq!(rt; left, *len);
+    }
 }
 
 #[test]

@@ -1,9 +1,9 @@
 //! Journals on a store in memory: what is read of a worked one, and the damage of changed ones.
 
-use mj_replay::read_journal;
-use mj_base::{Items, RankNo};
+use super::stored::{put, rank};
 use mj_memstore::MemStore;
-use mj_store::{ObjectAct, ObjectName, ObjectOp, ObjectStore};
+use mj_recovery::LiveJournal;
+use mj_replay::read_journal;
 use std::alloc::{AllocError, Global};
 use std::test::Fail;
 
@@ -46,11 +46,7 @@ fn changed(alloc: Global, bytes: &[u8], change: Change) -> Result<Option<Vec<u8>
         Change::Kept => {}
         Change::Without => return Ok(None),
         Change::Cut(len) => bytes.truncate(len),
-        Change::Longer(more) => {
-            for _ in 0..more {
-                bytes.push(0)?;
-            }
-        }
+        Change::Longer(more) => push_zeros(&mut bytes, more)?,
         Change::Byte(at, byte) => {
             if let Some(place) = bytes.get_mut(at) {
                 *place = byte;
@@ -60,24 +56,25 @@ fn changed(alloc: Global, bytes: &[u8], change: Change) -> Result<Option<Vec<u8>
     Ok(Some(bytes))
 }
 
-fn rank() -> Result<RankNo, Fail> {
-    match RankNo::new(0) {
-        Some(rank) => Ok(rank),
-        None => Err(Fail::from("rank 0 was refused")),
+fn push_zeros(bytes: &mut Vec<u8>, count: usize) -> Result<(), AllocError> {
+    for _ in 0..count {
+        bytes.push(0)?;
     }
+    Ok(())
 }
 
-/// Puts an object of the journal.
-fn put(alloc: Global, store: &mut MemStore, index: u64, bytes: Vec<u8>) -> Result<(), Fail> {
-    let name = ObjectName::File { ino: 0x200, index };
-    let bytes = Items::from_vec(bytes);
-    let act = ObjectAct::Write { at: 0, bytes };
-    match store.submit(alloc, ObjectOp { name, act }) {
-        Ok(_) => {}
-        Err(_) => return Err(Fail::from("a write was refused")),
+/// Puts an object whose bytes are changed, if it is left.
+fn put_changed(
+    alloc: Global,
+    store: &mut MemStore,
+    index: u64,
+    bytes: &[u8],
+    change: Change,
+) -> Result<(), Fail> {
+    match changed(alloc, bytes, change)? {
+        Some(bytes) => put(alloc, store, index, 0, bytes),
+        None => Ok(()),
     }
-    let _ = store.step(&name)?;
-    Ok(())
 }
 
 /// The worked journal on a store, with its header and its entries changed. It takes four calls where both are there.
@@ -87,85 +84,111 @@ fn put_journal(
     header: Change,
     entries: Change,
 ) -> Result<(), Fail> {
-    if let Some(bytes) = changed(alloc, &HEADER, header)? {
-        put(alloc, store, 0, bytes)?;
-    }
-    if let Some(bytes) = changed(alloc, &ENTRIES, entries)? {
-        put(alloc, store, 1, bytes)?;
-    }
-    Ok(())
+    put_changed(alloc, store, 0, &HEADER, header)?;
+    put_changed(alloc, store, 1, &ENTRIES, entries)
+}
+
+/// A journal in words.
+fn words_of(alloc: Global, journal: &LiveJournal) -> Result<String, AllocError> {
+    let last = match journal.events.as_slice() {
+        [.., last] => last.at,
+        [] => 0,
+    };
+    let count = journal.events.len();
+    let tail = journal.tail;
+    format!(in alloc; "{count} events, the last at {last}, tail {tail}")
 }
 
 /// What is read of a store, in words.
 fn told(alloc: Global, store: &mut MemStore) -> Result<String, Fail> {
     match read_journal(alloc, store, rank()?) {
-        Ok(journal) => {
-            let last = match journal.events.as_slice() {
-                [.., last] => last.at,
-                [] => 0,
-            };
-            let count = journal.events.len();
-            let tail = journal.tail;
-            Ok(format!(in alloc; "{count} events, the last at {last}, tail {tail}")?)
-        }
+        Ok(journal) => Ok(words_of(alloc, &journal)?),
         Err(why) => Ok(format!(in alloc; "{why:?}")?),
     }
 }
 
 const WHOLE: &str = "2 events, the last at 4194348, tail 4194397";
 
+// What is done to the header and to the entries, and what is then read.
+static ROWS: [(Change, Change, &str); 18] = [
+    (Change::Kept, Change::Kept, WHOLE),
+    (Change::Without, Change::Kept, "Damage(HeaderMissing)"),
+    (Change::Cut(68), Change::Kept, "Damage(HeaderBad(68))"),
+    (Change::Longer(1), Change::Kept, "Damage(HeaderBad(70))"),
+    (Change::Longer(31), Change::Kept, "Damage(HeaderBad(100))"),
+    (Change::Byte(4, 0x64), Change::Kept, "Damage(HeaderBad(4))"),
+    (Change::Byte(23, 1), Change::Kept, "Damage(HeaderOrder)"),
+    (Change::Byte(59, 0), Change::Kept, "Damage(Legacy)"),
+    (Change::Kept, Change::Without, "Damage(Hole(4194304))"),
+    (Change::Kept, Change::Cut(92), "Damage(Hole(4194396))"),
+    (
+        Change::Kept,
+        Change::Byte(44, 0),
+        "Damage(BadSentinel(4194348))",
+    ),
+    (
+        Change::Kept,
+        Change::Byte(8, 0),
+        "Damage(BadLength(4194304, 0))",
+    ),
+    (
+        Change::Kept,
+        Change::Byte(36, 1),
+        "Damage(BadStart(4194304, 4194305))",
+    ),
+    (
+        Change::Kept,
+        Change::Byte(52, 30),
+        "Damage(CutEntry(4194348))",
+    ),
+    (
+        Change::Kept,
+        Change::Byte(12, 0),
+        "Damage(BadEvent(4194304, 0))",
+    ),
+    // expire lies behind the subtree map
+    (
+        Change::Byte(31, 0x2c),
+        Change::Kept,
+        "Damage(NoSubtreeMap(4194348))",
+    ),
+    // write lies before the session's entry
+    (
+        Change::Byte(39, 0x2c),
+        Change::Cut(90),
+        "1 events, the last at 4194304, tail 4194348",
+    ),
+    (
+        Change::Kept,
+        Change::Longer(3),
+        "Damage(BadSentinel(4194397))",
+    ),
+];
+
+/// What is read of the worked journal once it is changed.
+fn told_of(alloc: Global, header: Change, entries: Change) -> Result<String, Fail> {
+    let mut store = MemStore::new(alloc);
+    put_journal(alloc, &mut store, header, entries)?;
+    told(alloc, &mut store)
+}
+
 #[test]
 fn a_journal_is_read_or_its_first_damage_is_named(rt: HostRuntime) -> Result<(), Fail> {
-    let alloc = rt.alloc();
-    let kept = Change::Kept;
-    for (header, entries, want) in [
-        (kept, kept, WHOLE),
-        (Change::Without, kept, "Damage(HeaderMissing)"),
-        (Change::Cut(68), kept, "Damage(HeaderBad(68))"),
-        (Change::Longer(1), kept, "Damage(HeaderBad(70))"),
-        (Change::Longer(31), kept, "Damage(HeaderBad(100))"),
-        (Change::Byte(4, 0x64), kept, "Damage(HeaderBad(4))"),
-        (Change::Byte(23, 1), kept, "Damage(HeaderOrder)"),
-        (Change::Byte(59, 0), kept, "Damage(Legacy)"),
-        (kept, Change::Without, "Damage(Hole(4194304))"),
-        (kept, Change::Cut(92), "Damage(Hole(4194396))"),
-        (kept, Change::Byte(44, 0), "Damage(BadSentinel(4194348))"),
-        (kept, Change::Byte(8, 0), "Damage(BadLength(4194304, 0))"),
-        (
-            kept,
-            Change::Byte(36, 1),
-            "Damage(BadStart(4194304, 4194305))",
-        ),
-        (kept, Change::Byte(52, 30), "Damage(CutEntry(4194348))"),
-        (kept, Change::Byte(12, 0), "Damage(BadEvent(4194304, 0))"),
-        // expire lies behind the subtree map
-        (
-            Change::Byte(31, 0x2c),
-            kept,
-            "Damage(NoSubtreeMap(4194348))",
-        ),
-        // write lies before the session's entry
-        (
-            Change::Byte(39, 0x2c),
-            Change::Cut(90),
-            "1 events, the last at 4194304, tail 4194348",
-        ),
-        (kept, Change::Longer(3), "Damage(BadSentinel(4194397))"),
-    ] {
-        let mut store = MemStore::new(alloc);
-        put_journal(alloc, &mut store, header, entries)?;
-        let found = told(alloc, &mut store)?;
-        assert_eq!(rt; found.as_str(), want, "{header:?}, {entries:?}");
+    for (header, entries, want) in &ROWS {
+        let found = told_of(rt.alloc(), *header, *entries)?;
+        assert_eq!(rt; found.as_str(), *want, "{header:?}, {entries:?}");
     }
     Ok(())
 }
 
+// The size of the header, its bytes, the size of the next object, and its bytes.
+static READS: [u64; 4] = [5, 6, 7, 8];
+
 #[test]
 fn a_fault_is_no_damage_and_no_end(rt: HostRuntime) -> Result<(), Fail> {
     let alloc = rt.alloc();
-    // the size of the header, its bytes, the size of the next object, and its bytes
-    for call in [5, 6, 7, 8] {
-        let mut store = MemStore::failing(alloc, &[call])?;
+    for call in &READS {
+        let mut store = MemStore::failing(alloc, &[*call])?;
         put_journal(alloc, &mut store, Change::Kept, Change::Kept)?;
         let found = told(alloc, &mut store)?;
         assert_eq!(rt;
@@ -185,36 +208,45 @@ fn push_pad(bytes: &mut Vec<u8>, at: u64) -> Result<(), AllocError> {
     bytes.extend_from_slice(&65_516u32.to_le_bytes())?;
     bytes.extend_from_slice(&51u32.to_le_bytes())?;
     bytes.extend_from_slice(&65_508u32.to_le_bytes())?;
-    for _ in 0..65_508 {
-        bytes.push(0)?;
-    }
+    push_zeros(bytes, 65_508)?;
     bytes.extend_from_slice(&at.to_le_bytes())
+}
+
+/// The subtree map and 64 of the longest entries.
+fn long_journal(alloc: Global) -> Result<Vec<u8>, AllocError> {
+    let mut bytes = ENTRIES[..44].to_vec(alloc)?;
+    for k in 0..64 {
+        push_pad(&mut bytes, 4_194_348 + 65_536 * k)?;
+    }
+    Ok(bytes)
+}
+
+/// The header where write is 8388652.
+fn long_header(alloc: Global) -> Result<Vec<u8>, AllocError> {
+    let mut header = HEADER;
+    header[39] = 0x2c;
+    header[41] = 0x80;
+    header.to_vec(alloc)
+}
+
+/// Puts bytes into the objects 1 and 2, so many of them into the first.
+fn put_two(alloc: Global, store: &mut MemStore, bytes: &[u8], cut: usize) -> Result<(), Fail> {
+    let Some((first, second)) = bytes.split_at_checked(cut) else {
+        return Err(Fail::from("too few bytes"));
+    };
+    put(alloc, store, 1, 0, first.to_vec(alloc)?)?;
+    put(alloc, store, 2, 0, second.to_vec(alloc)?)
 }
 
 // The last entry lies over the ends of the first object and the first piece.
 #[test]
 fn an_entry_lies_over_two_objects_and_pieces(rt: HostRuntime) -> Result<(), Fail> {
     let alloc = rt.alloc();
-    let mut bytes = Vec::new(alloc);
-    bytes.extend_from_slice(&ENTRIES[..44])?;
-    for k in 0..64 {
-        push_pad(&mut bytes, 4_194_348 + 65_536 * k)?;
-    }
     let mut store = MemStore::new(alloc);
-    // write is 8388652
-    let Some(mut header) = changed(alloc, &HEADER, Change::Byte(39, 0x2c))? else {
-        return Err(Fail::from("no header"));
-    };
-    if let Some(place) = header.get_mut(41) {
-        *place = 0x80;
-    }
-    put(alloc, &mut store, 0, header)?;
+    put(alloc, &mut store, 0, 0, long_header(alloc)?)?;
+    let bytes = long_journal(alloc)?;
     assert_eq!(rt; bytes.len(), 4_194_348);
-    let Some((first, second)) = bytes.split_at_checked(4_194_304) else {
-        return Err(Fail::from("too few bytes"));
-    };
-    put(alloc, &mut store, 1, first.to_vec(alloc)?)?;
-    put(alloc, &mut store, 2, second.to_vec(alloc)?)?;
+    put_two(alloc, &mut store, &bytes, 4_194_304)?;
     let found = told(alloc, &mut store)?;
     assert_eq!(rt;
         found.as_str(),

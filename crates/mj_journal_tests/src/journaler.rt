@@ -3,9 +3,10 @@
 ghost use Rattle.std.specs.Prelude.{◌≡◌, ℕ, ◌+◌, ◌^◌, ◌≤◌, IfOk};
 ghost use Rattle.mj_journaler.specs.Journal.{IsNew};
 
-use mj_journaler::{Acked, AppendRefusal, Journaler};
-use mj_base::{OpNo, RankNo};
+use super::stored::rank;
+use mj_base::OpNo;
 use mj_entry::{EntryRead, entry_read};
+use mj_journaler::{Acked, AppendRefusal, Journaler};
 use mj_layout::{Header, Layout, Phase};
 use mj_store::{ObjectAct, ObjectName, ObjectOp};
 use std::alloc::Global;
@@ -17,9 +18,6 @@ fn journaler(alloc: Global, tail: u64) -> Result<Journaler, Fail>
     requires below { tail ≤ 2 ^ 62 }
     ensures { IfOk result (IsNew 1) }
 {
-    let Some(rank) = RankNo::new(0) else {
-        return Err(Fail::from("rank 0 was refused"));
-    };
     let Ok(layout) = Layout::new(65_536, 1, 65_536) else {
         return Err(Fail::from("a layout was refused"));
     };
@@ -32,7 +30,7 @@ fn journaler(alloc: Global, tail: u64) -> Result<Journaler, Fail>
         phase: Phase::Serving,
         epoch: 0,
     };
-    Ok(Journaler::new(alloc, head, rank, tail)?)
+    Ok(Journaler::new(alloc, head, rank()?, tail)?)
 }
 
 /// Appends a payload of this many bytes.

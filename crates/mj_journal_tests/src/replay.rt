@@ -1,36 +1,13 @@
 //! Journals of several layouts on a store in memory: what they are replayed to.
 
-use mj_replay::replay;
-use mj_base::{Items, RankNo};
+use super::payload::{MAP, MKDIR, OPEN, changed};
+use super::stored::{layout, put, rank};
+use mj_cache::Cache;
 use mj_layout::{Header, Layout, Phase};
 use mj_memstore::MemStore;
-use mj_store::{ObjectAct, ObjectName, ObjectOp, ObjectStore};
+use mj_replay::replay;
 use std::alloc::{AllocError, Global};
 use std::test::Fail;
-
-/// The subtree map of rank 0.
-const MAP: [u8; 24] = [
-    2, 0, 0, 0, 2, 0, 0, 0, 1, 0, 0, 0, 0, 0, 0, 0, 0, 1, 0, 0, 0, 0, 0, 0,
-];
-
-/// The open session of client 4, its tid 1.
-const OPEN: [u8; 29] = [
-    10, 0, 0, 0, 4, 0, 0, 0, 1, 1, 0, 0, 0, 0, 0, 0, 0, 1, 0, 0, 0, 0, 0, 0, 0, 0, 0, 0, 0,
-];
-
-/// `mkdir /a 755` of client 4 at time 101, its tid 2.
-const MKDIR: [u8; 156] = [
-    0x14, 0x00, 0x00, 0x00, 0x03, 0x04, 0x00, 0x00, 0x00, 0x02, 0x00, 0x00, 0x00, 0x00, 0x00, 0x00,
-    0x00, 0x00, 0x00, 0x00, 0x00, 0x00, 0x01, 0x00, 0x00, 0x00, 0x00, 0x00, 0x00, 0x00, 0x01, 0x01,
-    0x00, 0x00, 0x00, 0x00, 0x01, 0x00, 0x00, 0x00, 0x00, 0x02, 0x00, 0x00, 0x00, 0x01, 0x00, 0x00,
-    0x00, 0x00, 0x00, 0x00, 0x00, 0x01, 0x02, 0x00, 0x00, 0x00, 0x00, 0x00, 0x00, 0x00, 0x01, 0x00,
-    0x00, 0x00, 0x00, 0x00, 0x00, 0x00, 0x00, 0x00, 0x00, 0x00, 0x01, 0x00, 0x61, 0x02, 0x00, 0x00,
-    0x00, 0x00, 0x00, 0x00, 0x00, 0x01, 0x00, 0x00, 0x00, 0x00, 0x00, 0x01, 0x00, 0x00, 0x01, 0xed,
-    0x01, 0x00, 0x00, 0x00, 0x00, 0x00, 0x00, 0x00, 0x00, 0x00, 0x00, 0x00, 0x00, 0x00, 0x00, 0x00,
-    0x00, 0x65, 0x00, 0x00, 0x00, 0x00, 0x00, 0x00, 0x00, 0x01, 0x00, 0x00, 0x00, 0x00, 0x00, 0x00,
-    0x00, 0x00, 0x00, 0x00, 0x01, 0x00, 0x00, 0x01, 0x01, 0x00, 0x00, 0x00, 0x00, 0x00, 0x00, 0x00,
-    0x00, 0x00, 0x00, 0x00, 0x00, 0x00, 0x00, 0x00, 0x00, 0x00, 0x00, 0x00,
-];
 
 /// Where the number of lumps of `MKDIR` stands.
 const LUMPS: usize = 41;
@@ -84,28 +61,45 @@ fn pad(alloc: Global) -> Result<Vec<u8>, AllocError> {
     Ok(payload)
 }
 
+// The subtree map: twice, with another type, or not at all.
+fn push_map(bytes: &mut Vec<u8>, from: u64, change: Change) -> Result<(), AllocError> {
+    let mut map = MAP;
+    match change {
+        Change::Expired => push_entry(bytes, from, &MAP)?,
+        Change::BadEvent => map[0] = 3,
+        Change::NoMap => return Ok(()),
+        _ => {}
+    }
+    push_entry(bytes, from, &map)
+}
+
+fn push_pad(alloc: Global, bytes: &mut Vec<u8>, from: u64) -> Result<(), AllocError> {
+    let payload = pad(alloc)?;
+    push_entry(bytes, from, &payload)
+}
+
+fn push_mkdir(
+    alloc: Global,
+    bytes: &mut Vec<u8>,
+    from: u64,
+    change: Change,
+) -> Result<(), AllocError> {
+    match change {
+        Change::Lump(dir) => {
+            let payload = with_lump(alloc, dir)?;
+            push_entry(bytes, from, &payload)
+        }
+        _ => push_entry(bytes, from, &MKDIR),
+    }
+}
+
 // The entries of a journal that begins at a position: a subtree map, a session, padding and a directory.
 fn entries(alloc: Global, from: u64, change: Change) -> Result<Vec<u8>, AllocError> {
     let mut bytes = Vec::new(alloc);
-    let mut map = MAP.to_vec(alloc)?;
-    if change == Change::Expired {
-        push_entry(&mut bytes, from, &map)?;
-    }
-    if change == Change::BadEvent {
-        if let Some(first) = map.get_mut(0) {
-            *first = 3;
-        }
-    }
-    if change != Change::NoMap {
-        push_entry(&mut bytes, from, &map)?;
-    }
+    push_map(&mut bytes, from, change)?;
     push_entry(&mut bytes, from, &OPEN)?;
-    push_entry(&mut bytes, from, &pad(alloc)?)?;
-    let mkdir = match change {
-        Change::Lump(dir) => with_lump(alloc, dir)?,
-        _ => MKDIR.to_vec(alloc)?,
-    };
-    push_entry(&mut bytes, from, &mkdir)?;
+    push_pad(alloc, &mut bytes, from)?;
+    push_mkdir(alloc, &mut bytes, from, change)?;
     if change == Change::Cut {
         let _ = bytes.pop();
     }
@@ -114,22 +108,15 @@ fn entries(alloc: Global, from: u64, change: Change) -> Result<Vec<u8>, AllocErr
 
 // The directory's event with one lump more, whose head is gone.
 fn with_lump(alloc: Global, dir: u64) -> Result<Vec<u8>, AllocError> {
-    let mut payload = Vec::new(alloc);
-    let Some((front, last)) = MKDIR.split_at_checked(LAST_LUMP) else {
-        return Ok(payload);
-    };
-    payload.extend_from_slice(front)?;
+    let mut payload = MKDIR[..LAST_LUMP].to_vec(alloc)?;
     if dir < FIRST_INO {
         push_lump(&mut payload, dir)?;
     }
-    payload.extend_from_slice(last)?;
+    payload.extend_from_slice(&MKDIR[LAST_LUMP..])?;
     if FIRST_INO < dir {
         push_lump(&mut payload, dir)?;
     }
-    if let Some(count) = payload.get_mut(LUMPS) {
-        *count = 3;
-    }
-    Ok(payload)
+    changed(alloc, &payload, LUMPS, 3)
 }
 
 fn push_lump(payload: &mut Vec<u8>, dir: u64) -> Result<(), AllocError> {
@@ -137,22 +124,22 @@ fn push_lump(payload: &mut Vec<u8>, dir: u64) -> Result<(), AllocError> {
     payload.extend_from_slice(&[0; 13])
 }
 
-fn put(
+// Puts bytes where the layout has this position.
+fn put_at(
     alloc: Global,
     store: &mut MemStore,
-    index: u64,
-    at: u64,
-    bytes: Vec<u8>,
+    layout: &Layout,
+    position: u64,
+    bytes: &[u8],
 ) -> Result<(), Fail> {
-    let name = ObjectName::File { ino: 0x200, index };
-    let bytes = Items::from_vec(bytes);
-    let act = ObjectAct::Write { at, bytes };
-    match store.submit(alloc, ObjectOp { name, act }) {
-        Ok(_) => {}
-        Err(_) => return Err(Fail::from("a write was refused")),
-    }
-    let _ = store.step(&name)?;
-    Ok(())
+    let spot = layout.place(position);
+    put(
+        alloc,
+        store,
+        spot.index,
+        u64::from(spot.offset),
+        bytes.to_vec(alloc)?,
+    )
 }
 
 // The stream's bytes from a position on, each where the layout has it: up to two stripe units of 4 KiB or longer.
@@ -166,38 +153,23 @@ fn put_stream(
     let Some((first, second)) = bytes.split_at_checked(UNIT) else {
         return Err(Fail::from("too few bytes"));
     };
-    let spot = layout.place(from);
-    put(
-        alloc,
-        store,
-        spot.index,
-        spot.offset as u64,
-        first.to_vec(alloc)?,
-    )?;
-    let spot = layout.place(from.wrapping_add(UNIT as u64));
-    put(
-        alloc,
-        store,
-        spot.index,
-        spot.offset as u64,
-        second.to_vec(alloc)?,
-    )
+    put_at(alloc, store, layout, from, first)?;
+    put_at(alloc, store, layout, from.wrapping_add(UNIT as u64), second)
 }
 
-// A store with a header and the entries.
-fn journal(alloc: Global, layout: Layout, change: Change) -> Result<MemStore, Fail> {
-    let mut store = MemStore::new(alloc);
+// The header of a journal whose entries end here.
+fn header(layout: Layout, change: Change, end: u64) -> Header {
     let from = layout.period();
-    let bytes = entries(alloc, from, change)?;
-    let end = from.wrapping_add(bytes.len() as u64);
-    let header = Header {
+    let second = from.wrapping_add(44);
+    Header {
         trimmed: from,
-        expire: match change {
-            Change::Expired => from.wrapping_add(44),
-            _ => from,
+        expire: if change == Change::Expired {
+            second
+        } else {
+            from
         },
         write: match change {
-            Change::Cut => from.wrapping_add(44),
+            Change::Cut => second,
             Change::Hole => end.wrapping_add(1),
             _ => end,
         },
@@ -205,23 +177,37 @@ fn journal(alloc: Global, layout: Layout, change: Change) -> Result<MemStore, Fa
         format: 1,
         phase: Phase::Serving,
         epoch: 1,
-    };
-    put(alloc, &mut store, 0, 0, header.write(alloc)?)?;
+    }
+}
+
+// A store with a header and the entries.
+fn journal(alloc: Global, layout: Layout, change: Change) -> Result<MemStore, Fail> {
+    let mut store = MemStore::new(alloc);
+    let from = layout.period();
+    let bytes = entries(alloc, from, change)?;
     put_stream(alloc, &mut store, &layout, from, &bytes)?;
+    let end = from.wrapping_add(bytes.len() as u64);
+    let header = header(layout, change, end).write(alloc)?;
+    put(alloc, &mut store, 0, 0, header)?;
     Ok(store)
+}
+
+// The whole tree behind a tail.
+fn words_of(alloc: Global, tail: u64, cache: &Cache) -> Result<String, Fail> {
+    let listing = cache.listing(alloc, true)?;
+    let text = str::from_utf8(listing.as_slice()).unwrap_or("no text");
+    Ok(format!(in alloc; "{tail} {text}")?)
 }
 
 // The tail behind the period and the whole tree, or why there is none.
 fn told(alloc: Global, layout: Layout, change: Change) -> Result<String, Fail> {
     let mut store = journal(alloc, layout, change)?;
-    let rank = RankNo::new(0).ok_or("rank 0 was refused")?;
-    match replay(alloc, &mut store, rank) {
-        Ok(found) => {
-            let tail = found.tail.wrapping_sub(layout.period());
-            let listing = found.cache.listing(alloc, true)?;
-            let text = str::from_utf8(listing.as_slice()).unwrap_or("no text");
-            Ok(format!(in alloc; "{tail} {text}")?)
-        }
+    match replay(alloc, &mut store, rank()?) {
+        Ok(found) => words_of(
+            alloc,
+            found.tail.wrapping_sub(layout.period()),
+            &found.cache,
+        ),
         Err(why) => Ok(format!(in alloc; "{why:?}")?),
     }
 }
@@ -240,32 +226,49 @@ session 4 1
 reply 1 0
 ";
 
+// Layouts and their periods.
+static LAYOUTS: [(u32, u32, u32, u64); 3] = [
+    (4_096, 2, 65_536, 131_072),
+    (65_536, 3, 65_536, 196_608),
+    (4_194_304, 1, 4_194_304, 4_194_304),
+];
+
+static CHANGES: [Change; 8] = [
+    Change::Nothing,
+    Change::Cut,
+    Change::Hole,
+    Change::Expired,
+    Change::NoMap,
+    Change::BadEvent,
+    Change::Lump(0x700),
+    Change::Lump(FIRST_INO + 1),
+];
+
+// What is told of a journal that begins at this period.
+fn wanted(alloc: Global, period: u64, change: Change) -> Result<String, AllocError> {
+    match change {
+        Change::Nothing => String::from_str(alloc, WHOLE),
+        Change::Cut => String::from_str(alloc, WITHOUT_LAST),
+        Change::Hole => format!(in alloc; "Damage(Hole({}))", 5_297u64.wrapping_add(period)),
+        Change::Expired => String::from_str(alloc, "Damage(Unbuilt)"),
+        Change::NoMap => format!(in alloc; "Damage(NoSubtreeMap({period}))"),
+        Change::BadEvent => format!(in alloc; "Damage(BadEvent({period}, 0))"),
+        Change::Lump(_) => String::from_str(alloc, "Damage(Unbuilt)"),
+    }
+}
+
+fn is_so(alloc: Global, layout: Layout, period: u64, change: Change) -> Result<bool, Fail> {
+    let found = told(alloc, layout, change)?;
+    Ok(found == wanted(alloc, period, change)?)
+}
+
 #[test]
 fn journals_are_replayed_or_their_damage_is_named(rt: HostRuntime) -> Result<(), Fail> {
-    let alloc = rt.alloc();
-    for (su, sc, os, period) in [
-        (4_096, 2, 65_536, 131_072),
-        (65_536, 3, 65_536, 196_608),
-        (4_194_304, 1, 4_194_304, 4_194_304),
-    ] {
-        let Ok(layout) = Layout::new(su, sc, os) else {
-            return Err(Fail::from("a layout was refused"));
-        };
-        let hole = format!(in alloc; "Damage(Hole({}))", 5_297u64.wrapping_add(period))?;
-        let no_map = format!(in alloc; "Damage(NoSubtreeMap({period}))")?;
-        let bad_event = format!(in alloc; "Damage(BadEvent({period}, 0))")?;
-        for (change, want) in [
-            (Change::Nothing, WHOLE),
-            (Change::Cut, WITHOUT_LAST),
-            (Change::Hole, hole.as_str()),
-            (Change::Expired, "Damage(Unbuilt)"),
-            (Change::NoMap, no_map.as_str()),
-            (Change::BadEvent, bad_event.as_str()),
-            (Change::Lump(0x700), "Damage(Unbuilt)"),
-            (Change::Lump(FIRST_INO + 1), "Damage(Unbuilt)"),
-        ] {
-            let found = told(alloc, layout, change)?;
-            assert_eq!(rt; found.as_str(), want, "{change:?}, {su} {sc} {os}");
+    for (su, sc, os, period) in &LAYOUTS {
+        let layout = layout(*su, *sc, *os)?;
+        for change in &CHANGES {
+            let is_so = is_so(rt.alloc(), layout, *period, *change)?;
+            assert!(rt; is_so, "{change:?}, {su} {sc} {os}");
         }
     }
     Ok(())

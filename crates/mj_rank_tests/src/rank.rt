@@ -1,18 +1,12 @@
 //! A mount over a store in memory, step by step, and a rank over one: requests between writes and acknowledgements.
 
-ghost use Rattle.std.specs.Prelude.{◌≡◌, true, IsTrue};
-ghost use Rattle.mj_base.specs.declared.record.Kind.TheVariants.{Symlink};
-ghost use Rattle.mj_base.specs.Record.{target_fits, target_length_fits};
-ghost use Rattle.mj_base.specs.Target.{has_no_zero};
-ghost use Rattle.mj_tree.specs.Request.{op_fits};
-
-use mj_rank::{Early, MountStep, Mounting, Rank, RankRefusal, Reaped};
-use mj_base::{ClientId, Items, ObjectName, Path, RankNo, Target, Tid};
+use super::asking::{has_text, request};
+use mj_base::{Items, ObjectName, RankNo};
 use mj_layout::{Header, Layout, Phase};
 use mj_memstore::MemStore;
+use mj_rank::{MountStep, Mounting, Rank, Reaped};
 use mj_store::{ObjectAct, ObjectOp, ObjectStore};
-use mj_tree::{ClientRequest, Op, Reply};
-use std::alloc::Global;
+use std::alloc::{AllocError, Global};
 use std::test::Fail;
 
 fn object(index: u64) -> ObjectName {
@@ -129,9 +123,6 @@ fn what_lies_above_the_tail_is_cut_before_a_rank_serves(rt: HostRuntime) -> Resu
 
 // ---- a rank
 
-/// The number of the first inode of rank 0.
-const FIRST: u64 = 0x100_0000_0000;
-
 /// Rank 0 over a new journal of this layout.
 fn new_rank(alloc: Global, su: u32, sc: u32, os: u32) -> Result<Rank<MemStore>, Fail> {
     let mut store = MemStore::new(alloc);
@@ -175,126 +166,40 @@ fn tries_oldest(mount: &mut Mounting<MemStore>) {
     }
 }
 
-/// What a row asks.
-#[derive(Clone, Copy)]
-enum Ask {
-    Begin,
-    Mkdir(&'static str),
-    Create(&'static str),
-    Unlink(&'static str),
-    Rename(&'static str, &'static str),
-    /// A symlink whose target has 4,000 bytes.
-    Symlink(&'static str),
-}
-
-/// How it is answered, and whether an end is told.
-#[derive(Clone, Copy)]
-enum Is {
-    Done(u64, bool),
-    Error(u16),
-}
-
+/// A row of a run.
 #[derive(Clone, Copy)]
 enum Row {
-    /// A request with this number is answered so.
-    Ask(u64, Ask, Is),
+    /// The request of these words is answered so, and an end is told or not.
+    Ask(&'static str, &'static str, bool),
+    /// Likewise, its last word is a target of 4,000 bytes.
+    Fill(&'static str, &'static str, bool),
     /// A write is sent, which ends with its stripe unit or before.
     Flush(bool),
     /// The write to this object is done. The safe position rises or stays.
     Done(u64, bool),
 }
 
-fn path(alloc: Global, text: &str) -> Result<Path, Fail> {
-    Ok(Path::read(alloc, text.as_bytes())?)
-}
-
-fn symlink(alloc: Global, text: &str) -> Result<Op, Fail> {
-    let target = vec![in alloc; b'x'; 4_000]?;
-    Ok(Op::Symlink {
-        path: path(alloc, text)?,
-        target: Target::of(alloc, &target)?,
-    })
-}
-
-fn op_of(alloc: Global, ask: Ask) -> Result<Op, Fail> {
-    Ok(match ask {
-        Ask::Begin => Op::SessionOpen,
-        Ask::Mkdir(text) => Op::Mkdir {
-            path: path(alloc, text)?,
-            mode: 0o755,
-        },
-        Ask::Create(text) => Op::Create {
-            path: path(alloc, text)?,
-            mode: 0o644,
-        },
-        Ask::Unlink(text) => Op::Unlink {
-            path: path(alloc, text)?,
-        },
-        Ask::Rename(from, to) => Op::Rename {
-            from: path(alloc, from)?,
-            to: path(alloc, to)?,
-        },
-        Ask::Symlink(text) => symlink(alloc, text)?,
-    })
-}
-
-fn request(tid: u64, oldest: u64, op: Op) -> ClientRequest {
-    ClientRequest {
-        client: ClientId(7),
-        tid: Tid(tid),
-        oldest: Tid(oldest),
-        now: 1000,
-        op,
+/// The words, and so many `x` behind them.
+fn filled(alloc: Global, text: &str, fills: usize) -> Result<Vec<u8>, AllocError> {
+    let mut line = Vec::from_slice(alloc, text.as_bytes())?;
+    for _ in 0..fills {
+        line.push(b'x')?;
     }
+    Ok(line)
 }
 
-// Whether an operation is within its limits.
-fn keeps_limits(op: &Op) -> bool
-    ensures { result ≡ true → IsTrue (op_fits op.now) }
-{
-    match op {
-        Op::Mkdir { mode, .. } => *mode <= 0o7777,
-        Op::Create { mode, .. } => *mode <= 0o7777,
-        Op::SetAttr { mode, .. } => *mode <= 0o7777,
-        Op::Symlink { target, .. } => is_target(target.as_slice()),
-        _ => true,
-    }
-}
-
-fn is_target(bytes: &[u8]) -> bool
-    ensures { result ≡ target_fits Symlink bytes.now }
-{
-    is_target_length(bytes.len()) && has_no_zero(bytes)
-}
-
-fn is_target_length(len: usize) -> bool
-    ensures { result ≡ target_length_fits Symlink len }
-{
-    1 <= len && len <= 4095
-}
-
-fn has_no_zero(bytes: &[u8]) -> bool
-    ensures { result ≡ has_no_zero bytes.now }
-{
-    !bytes.contains(&0)
-}
-
-fn asked(
+/// Whether a request is answered so, and an end is told as wanted.
+fn is_asked(
     alloc: Global,
     rank: &mut Rank<MemStore>,
-    r: &ClientRequest,
-) -> Result<Early, RankRefusal> {
-    if !keeps_limits(&r.op) {
-        return Err(RankRefusal::Memory);
-    }
-    rank.request(alloc, r)
-}
-
-fn is_answer(early: &Early, is: Is) -> bool {
-    match (&early.reply, is) {
-        (Reply::Done { ino }, Is::Done(i, ends)) => ino.0 == i && early.ends_at.is_some() == ends,
-        (Reply::Error(code), Is::Error(e)) => *code == e && early.ends_at.is_none(),
-        _ => false,
+    line: &[u8],
+    want: &str,
+    ends: bool,
+) -> Result<bool, Fail> {
+    let r = request(alloc, line)?;
+    match rank.request(alloc, &r) {
+        Ok(early) => Ok(early.ends_at.is_some() == ends && has_text(alloc, &early.reply, want)?),
+        Err(_) => Ok(false),
     }
 }
 
@@ -322,39 +227,37 @@ fn is_flushed(alloc: Global, rank: &mut Rank<MemStore>, whole: bool) -> bool {
 }
 
 /// Whether a row is as it says.
-fn is_so(alloc: Global, rank: &mut Rank<MemStore>, row: Row) -> Result<bool, Fail> {
-    Ok(match row {
-        Row::Ask(tid, ask, is) => {
-            let r = request(tid, 1, op_of(alloc, ask)?);
-            match asked(alloc, rank, &r) {
-                Ok(early) => is_answer(&early, is),
-                Err(_) => false,
-            }
+fn is_so(alloc: Global, rank: &mut Rank<MemStore>, row: &Row) -> Result<bool, Fail> {
+    match row {
+        Row::Ask(text, want, ends) => is_asked(alloc, rank, text.as_bytes(), want, *ends),
+        Row::Fill(text, want, ends) => {
+            let line = filled(alloc, text, 4_000)?;
+            is_asked(alloc, rank, &line, want, *ends)
         }
-        Row::Flush(whole) => is_flushed(alloc, rank, whole),
-        Row::Done(index, rises) => is_done(rank, index, rises),
-    })
+        Row::Flush(whole) => Ok(is_flushed(alloc, rank, *whole)),
+        Row::Done(index, rises) => Ok(is_done(rank, *index, *rises)),
+    }
 }
 
 /// Two stripe units of 4,096 bytes are written, to the objects 2 and 3, and the second is done first.
-const ROWS: [Row; 17] = [
-    Row::Ask(1, Ask::Begin, Is::Done(0, true)),
-    Row::Ask(2, Ask::Mkdir("/d"), Is::Done(FIRST, true)),
-    Row::Ask(3, Ask::Symlink("/d/l"), Is::Done(FIRST + 1, true)),
-    Row::Ask(2, Ask::Mkdir("/d"), Is::Done(FIRST, true)),
+static ROWS: [Row; 17] = [
+    Row::Ask("7 1 1 1000 session-open", "done 0", true),
+    Row::Ask("7 2 1 1000 mkdir /d 755", "done 1099511627776", true),
+    Row::Fill("7 3 1 1000 symlink /d/l ", "done 1099511627777", true),
+    Row::Ask("7 2 1 1000 mkdir /d 755", "done 1099511627776", true),
     Row::Flush(true),
     Row::Flush(false),
     Row::Done(3, false),
-    Row::Ask(2, Ask::Mkdir("/d"), Is::Done(FIRST, true)),
+    Row::Ask("7 2 1 1000 mkdir /d 755", "done 1099511627776", true),
     Row::Done(2, true),
-    Row::Ask(2, Ask::Mkdir("/d"), Is::Done(FIRST, false)),
-    Row::Ask(4, Ask::Unlink("/d/l"), Is::Done(FIRST + 1, true)),
-    Row::Ask(5, Ask::Create("/d/f"), Is::Done(FIRST + 2, true)),
-    Row::Ask(6, Ask::Rename("/d", "/e"), Is::Done(FIRST, true)),
-    Row::Ask(7, Ask::Mkdir("/e"), Is::Error(17)),
+    Row::Ask("7 2 1 1000 mkdir /d 755", "done 1099511627776", false),
+    Row::Ask("7 4 1 1000 unlink /d/l", "done 1099511627777", true),
+    Row::Ask("7 5 1 1000 create /d/f 644", "done 1099511627778", true),
+    Row::Ask("7 6 1 1000 rename /d /e", "done 1099511627776", true),
+    Row::Ask("7 7 1 1000 mkdir /e 755", "error 17", false),
     Row::Flush(false),
     Row::Done(3, true),
-    Row::Ask(6, Ask::Rename("/d", "/e"), Is::Done(FIRST, false)),
+    Row::Ask("7 6 1 1000 rename /d /e", "done 1099511627776", false),
 ];
 
 const TREE: &str =
@@ -370,7 +273,7 @@ struct Told {
 
 fn first_wrong(alloc: Global, rank: &mut Rank<MemStore>) -> Result<Option<usize>, Fail> {
     for (at, row) in ROWS.iter().enumerate() {
-        if !is_so(alloc, rank, *row)? {
+        if !is_so(alloc, rank, row)? {
             return Ok(Some(at));
         }
     }

@@ -1,4 +1,0 @@
-use Rattle.mj_plan_tests.proofs.damaged.dentry.Goals as goal
-
-pub returns : goal.returns
-returns c = c.requires c.in_ok-name.name

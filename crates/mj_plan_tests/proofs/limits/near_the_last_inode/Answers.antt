@@ -1,6 +1,0 @@
-use Rattle.std.proofs.Common.{ap}
-use Rattle.mj_cache.specs.Cached.{CacheValue}
-use Rattle.mj_plan_tests.proofs.limits.near_the_last_inode.Goals as goal
-
-pub returns : goal.returns
-returns c = ap (λ (v : CacheValue). v.groups) c.in_ok-cache.ensures.holds

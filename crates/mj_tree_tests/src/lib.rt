@@ -1,5 +1,0 @@
-//! Tests of `mj_tree`.
-#![tactic(auto)]
-
-#[cfg(test)]
-mod requests;
