@@ -76,7 +76,7 @@ fn replies_of(
     Ok(found)
 }
 
-#[tactic(auto, using(crate::proofs::Replies::sorted_replies))]
+#[tactic(auto, using(crate::proofs::PlainSessions::sorted_replies))]
 fn plain_session(
     alloc: Global,
     client: ClientId,
