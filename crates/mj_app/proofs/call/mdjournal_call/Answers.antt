@@ -17,11 +17,11 @@ pub returns-in-Some-clause-first : goal.returns-in-Some-clause-first
 returns-in-Some-clause-first g c = rw (← c.in-Some.ensures, c.code.ensures) c.carry_out-status.ensures.first
 
 pub returns-in-None-clause-words : goal.returns-in-None-clause-words
-returns-in-None-clause-words g c = (λ two. sym c.in-None.ensures, λ none. c.code-in_None.ensures ∙ ap code_of (c.refuse-status.ensures.fixed tt))
+returns-in-None-clause-words g c = (λ two. sym c.in-None.ensures, λ none. c.code-in-None.ensures ∙ ap code_of (c.refuse-status.ensures.fixed tt))
 
 pub returns-in-None-clause-says : goal.returns-in-None-clause-says
 returns-in-None-clause-says g c = rw (← c.in-None.ensures) (record {
-  code_is = c.code-in_None.ensures ∙ ap code_of (c.refuse-status.ensures.fixed tt);
+  code_is = c.code-in-None.ensures ∙ ap code_of (c.refuse-status.ensures.fixed tt);
   text = words_text c.refuse-status.result _ _ (c.refuse-status.ensures.fixed tt) c.refuse-status.ensures.says;
   unread = refl;
   untouched = refl;

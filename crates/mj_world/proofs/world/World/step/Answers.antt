@@ -133,16 +133,16 @@ returns-in-Tree g c = record {
 
 pub returns-in-State : goal.returns-in-State
 returns-in-State g c = record {
-  made = subst (λ s. Made g.S.ObjectStore.state g.S.ObjectStore.faults g.S.ObjectStore.unreported s c.args.self.now c.list-in_State.result c.args.self.now) (sym c.in-State.is) (record {
+  made = subst (λ s. Made g.S.ObjectStore.state g.S.ObjectStore.faults g.S.ObjectStore.unreported s c.args.self.now c.list-in-State.result c.args.self.now) (sym c.in-State.is) (record {
     number = refl;
     since = λ base h. h;
-    cause = λ base h. c.list-in_State.ensures.cause base;
-    answer = c.list-in_State.ensures.answer;
-    leaves = λ base h. c.list-in_State.ensures.leaves;
-    phase = c.list-in_State.ensures.phase;
-    tells = c.list-in_State.ensures.tells;
+    cause = λ base h. c.list-in-State.ensures.cause base;
+    answer = c.list-in-State.ensures.answer;
+    leaves = λ base h. c.list-in-State.ensures.leaves;
+    phase = c.list-in-State.ensures.phase;
+    tells = c.list-in-State.ensures.tells;
     live = λ m h. h;
     stops = stops_same g.S.ObjectStore.state c.args.self.now c.args.self.now refl;
-    replies = c.list-in_State.ensures.replies;
+    replies = c.list-in-State.ensures.replies;
   });
 }
