@@ -276,7 +276,7 @@ fn formatted(alloc: Global, k: u64) -> Result<(MemStore, bool), Fail> {
     let mut out = MemSink::new(alloc, &[])?;
     let store = MemStore::failing(alloc, &[k])?;
     let (status, store) = mdjournal_call(alloc, &words, &mut files, store, &mut out);
-    let fails = status == 5 && out.taken() == b"store 1\n";
+    let fails = status == 5 && out.taken() == b"store 1\n".as_slice();
     Ok((store, fails == (k <= FORMAT_CALLS)))
 }
 

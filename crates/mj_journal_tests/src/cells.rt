@@ -1,37 +1,30 @@
 //! The order of cells, and the last write of each key.
 
+ghost use Rattle.mj_cells.specs.declared.cell.CellValue.TheVariants as value;
+ghost use Rattle.mj_cells.specs.Cell.{Fits};
+
 use mj_base::{ClientId, Ino, Kind, Name, Tid};
 use mj_cells::{CellKey, CellTable, CellValue, CellWrite};
 use std::alloc::{AllocError, Global};
 use std::test::Fail;
 
-fn put(alloc: Global, table: &mut CellTable, key: CellKey, value: CellValue) -> Result<(), Fail> {
+fn put(alloc: Global, table: &mut CellTable, key: CellKey, value: CellValue) -> Result<(), Fail>
+    requires { Fits key value }
+{
     Ok(table.put(alloc, CellWrite { key, value })?)
 }
 
-fn put_number(alloc: Global, table: &mut CellTable, key: CellKey, n: u64) -> Result<(), Fail> {
+fn put_number(alloc: Global, table: &mut CellTable, key: CellKey, n: u64) -> Result<(), Fail>
+    requires { Fits key (value.Number n) }
+{
     put(alloc, table, key, CellValue::Number(n))
 }
 
-// A dentry of the root.
-fn put_name(
-    alloc: Global,
-    table: &mut CellTable,
-    name: &[u8],
-    value: CellValue,
-) -> Result<(), Fail> {
-    let name = Name::read(alloc, name)?;
-    put(alloc, table, CellKey::Dentry(Ino(1), name), value)
-}
-
 fn fill_dentries(alloc: Global, table: &mut CellTable) -> Result<(), Fail> {
-    put_name(alloc, table, b"b", CellValue::Null(2))?;
-    put_name(
-        alloc,
-        table,
-        b"ab",
-        CellValue::Remote(1, Ino(9), Kind::File),
-    )
+    let b = CellKey::Dentry(Ino(1), Name::read(alloc, b"b")?);
+    put(alloc, table, b, CellValue::Null(2))?;
+    let ab = CellKey::Dentry(Ino(1), Name::read(alloc, b"ab")?);
+    put(alloc, table, ab, CellValue::Remote(1, Ino(9), Kind::File))
 }
 
 // Cells of each kind, out of order, with a number by which each is told.

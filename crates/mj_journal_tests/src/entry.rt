@@ -54,7 +54,11 @@ fn read_once_changed(bytes: &[u8; 21], place: usize, b: u8) -> EntryRead<'_> {
 
 // What a byte of the position counts.
 fn unit_of(place: usize) -> u64 {
-    256u64.wrapping_pow(place.saturating_sub(13) as u32)
+    let mut unit = 1u64;
+    for _ in 13..place {
+        unit = unit.wrapping_mul(256);
+    }
+    unit
 }
 
 static OTHERS: [u8; 5] = [0x00, 0x01, 0x02, 0x92, 0xff];

@@ -1,5 +1,8 @@
 //! Blobs in bytes, and what becomes of bytes that are cut, changed or not at the start.
 
+ghost use Rattle.std.specs.Prelude.{IfOk};
+ghost use Rattle.mj_meta.specs.Blob.{IsBlob};
+
 use super::payload::changed;
 use mj_meta::{BlobRefusal, MetaBlob, blob_read, blob_write};
 use std::alloc::{AllocError, Global};
@@ -50,7 +53,9 @@ fn between(alloc: Global, blob: &[u8]) -> Result<Vec<u8>, AllocError> {
 }
 
 // A copy of what is read, and where it ends.
-fn copied(alloc: Global, bytes: &[u8]) -> Result<(MetaBlob, usize), Fail> {
+fn copied(alloc: Global, bytes: &[u8]) -> Result<(MetaBlob, usize), Fail>
+    ensures { IfOk result (λ read. IsBlob read.0) }
+{
     match blob_read(alloc, bytes, 6) {
         Ok((read, behind)) => Ok((read.copy(alloc)?, behind)),
         Err(_) => Err(Fail::from("a blob was refused")),
