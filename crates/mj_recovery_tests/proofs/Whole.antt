@@ -11,7 +11,7 @@ use Rattle.mj_tree.specs.State.{PlainState}
 use Rattle.mj_cells.specs.Table.{Table, no_cells, overlay}
 use Rattle.mj_recovery.specs.declared.journal.LiveEvent.{LiveEvent}
 use Rattle.mj_recovery.specs.declared.journal.LiveJournal.{LiveJournal}
-use Rattle.mj_recovery.specs.Objects.{AreHeld, objects_of}
+use Rattle.mj_recovery.specs.Objects.{AreHeld, Objects, objects_of}
 use Rattle.mj_recovery.specs.Listed.{image_of, all_listed}
 use Rattle.mj_recovery.specs.ListedObjects.{listed_bad_table, listed_bad_key, named_bad, listed_bad_dirfrag}
 use Rattle.mj_recovery.specs.Journal.{live_journal, journal_writes}
