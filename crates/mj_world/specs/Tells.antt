@@ -1,5 +1,5 @@
 -- What each step's call did, by the phase of the world before it.
-use Rattle.std.specs.Prelude.{◌≡◌, ℕ, Option, Result, false}
+use Rattle.std.specs.Prelude.{◌≡◌, ℕ, Option, Result, false, true}
 use Rattle.mj_store.specs.State.{StoreState}
 use Rattle.mj_rank.specs.declared.rank.Rank.{Rank}
 use Rattle.mj_tree.specs.Request.{IsRequest}
