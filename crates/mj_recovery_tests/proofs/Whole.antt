@@ -11,7 +11,7 @@ use Rattle.mj_tree.specs.State.{PlainState}
 use Rattle.mj_cells.specs.Table.{Table, no_cells, overlay}
 use Rattle.mj_recovery.specs.declared.journal.LiveEvent.{LiveEvent}
 use Rattle.mj_recovery.specs.declared.journal.LiveJournal.{LiveJournal}
-use Rattle.mj_recovery.specs.Objects.{AreHeld, objects_of}
+use Rattle.mj_recovery.specs.Objects.{AreHeld, Objects, objects_of}
 use Rattle.mj_recovery.specs.Listed.{image_of, all_listed}
 use Rattle.mj_recovery.specs.ListedObjects.{listed_bad_table, listed_bad_key, named_bad, listed_bad_dirfrag}
 use Rattle.mj_recovery.specs.Journal.{live_journal, journal_writes}
@@ -37,7 +37,6 @@ journal_is rank hs r e = ap (λ image. live_journal image rank) (sym (image_is h
 pub merged_with_is : (rank : ℕ) (m : Objects) (j : LiveJournal) (t : Table) (s : PlainState) → t ≡ merged_table rank m j.events → s ≡ tree_of rank t
     → (let found : Recovery = record { journal = j; table = t; tree = s } in found ≡ merged_with rank m j)
 merged_with_is rank m j t s f g = λ i. record { journal = j; table = f i; tree = (g ∙ ap (tree_of rank) f) i }
-
 
 -- the journal of the list, and what it recovers to
 module _ (rank : ℕ) (hs : List HeldObject) where
