@@ -15,8 +15,7 @@ use Rattle.mj_cells.specs.declared.cell.CellKey.TheVariants as key
 use Rattle.mj_cells.specs.declared.cell.CellValue.{CellValue}
 use Rattle.mj_cells.specs.declared.cell.CellValue.TheVariants.{Gone}
 use Rattle.mj_cells.specs.Cell.{key_cmp, same_key}
-use Rattle.mj_cells.specs.Table.{Dentry, table_of, dentry_of, number_of, presence_of, dentry_value, number_value, presence_value}
-use Rattle.mj_cells.specs.Table.Dentry.{Full, Remote}
+use Rattle.mj_cells.specs.Table.{table_of, dentry_of, number_of, presence_of}
 use Rattle.mj_cells.proofs.CellMaps.{not_below, value_of-table_of}
 use Rattle.mj_cells.proofs.Keys.{exact_key}
 use Rattle.mj_cells.proofs.Tables.{one_dentry, one_number, one_presence}

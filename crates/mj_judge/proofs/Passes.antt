@@ -1,18 +1,17 @@
 -- Passes over edges reach what can be reached.
-use Rattle.std.proofs.Common.{◌≡◌, ℕ, suc, ◌+◌, ◌≤◌, ◌<◌, Bool, true, false, cond, ◌||◌, List, [], ◌∷◌, ◌++◌, drop, drop-cons, add-one, slice_index_or, length, Option, Some, None, T, refl, sym, ap, subst, ◌∙◌, ◌⊎◌, inl, inr, arith}
+use Rattle.std.proofs.Common.{◌≡◌, ℕ, suc, ◌+◌, ◌≤◌, ◌<◌, Bool, true, false, cond, ◌||◌, List, [], ◌∷◌, ◌++◌, drop, drop-cons, add-one, slice_index_or, length, Option, Some, None, refl, sym, ap, subst, ◌∙◌, ◌⊎◌, inl, inr, arith}
 use Rattle.std.specs.Prelude.{nat_eq, filter_map}
 use Rattle.std.specs.Option.{option_map, option_and_then}
 use Rattle.std.specs.List.{cons_option, list_any}
 use Rattle.std.specs.BTreeMap.{is_at}
 use Rattle.std.specs.declared.cmp.Ordering.TheVariants.{Less, Equal, Greater}
-use Rattle.std.specs.Ordering.{match_ordering, eq_by_cmp, is_lt}
-use Rattle.std.specs.Cmp.{tied_itself, unsigned_ties, eq_by_cmp_equiv}
-use Rattle.std.specs.FinMap.Entries.{find, below_all, is_sorted}
+use Rattle.std.specs.Ordering.{match_ordering}
+use Rattle.std.specs.Cmp.{unsigned_ties, eq_by_cmp_equiv}
 use Rattle.std.specs.BTreeSet.{insert_key}
 use Rattle.std.proofs.lemmas.Bool.{true≢false, eqb-true}
-use Rattle.mj_maps.specs.Map.{Map, entries, get, entries_sorted, left_true, right_true}
-use Rattle.mj_maps.specs.Orders.{nat_cmp, place_cmp}
-use Rattle.mj_maps.proofs.MapLaws.{exact_nat, exact_place, cases_key, eq_same, eq_true, get-entries, some_same, none_some}
+use Rattle.mj_maps.specs.Map.{Map, entries, get, entries_sorted}
+use Rattle.mj_maps.specs.Orders.{nat_cmp}
+use Rattle.mj_maps.proofs.MapLaws.{exact_nat, get-entries, some_same, none_some}
 use Rattle.mj_tree.specs.State.{root}
 use Rattle.mj_cells.specs.declared.cell.CellValue.{CellValue}
 use Rattle.mj_cells.specs.Cell.{key_cmp}

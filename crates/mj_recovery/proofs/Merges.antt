@@ -7,8 +7,8 @@ use Rattle.std.specs.BTreeMap.{insert_entry}
 use Rattle.std.specs.FinMap.Entries as list
 use Rattle.std.specs.List.{AllByRecursion}
 use Rattle.std.specs.List.Sorted.{IsStrictlySortedBy}
-use Rattle.mj_maps.specs.Map.{Map, entries, insert, from_entries, collect, picked, both_true}
-use Rattle.mj_maps.proofs.MapLaws.{Exact, from_entries-put, from_entries-entries, entries-from_entries, collect-insert_some, collect-insert_none}
+use Rattle.mj_maps.specs.Map.{Map, insert, from_entries, collect, both_true}
+use Rattle.mj_maps.proofs.MapLaws.{Exact, from_entries-put, collect-insert_some, collect-insert_none}
 use Rattle.mj_cells.specs.Table.{with_at}
 
 module _ {K X : Type 0} (R : K → K → Ordering) where

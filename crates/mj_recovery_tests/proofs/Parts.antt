@@ -54,12 +54,14 @@ behind_nothing (Err d) = refl
 whole : (bytes : List ℕ) (at write : ℕ) → behind [] (entries_from (bytes ++ []) at write) ≡ entries_from bytes at write
 whole bytes at write = behind_nothing (entries_from (bytes ++ []) at write) ∙ ap (λ (bs : List ℕ). entries_from bs at write) (append-nil bytes)
 
-pub piece_whole : (bytes : List ℕ) (at write : ℕ) (new : List LiveEvent) (p : Piece) → EndsIn 0 bytes at write p → Reads 0 bytes at write [] new p → entries_from bytes at write ≡ Ok (record { events = new; tail = place_of p })
-piece_whole bytes at write new (Tail tail) ends reads = sym (whole bytes at write) ∙ reads [] (inr refl)
-piece_whole bytes at write new (More next) ends reads = absurd (omega (arith, ends.1, ends.2))
+pub piece_whole : (bytes : List ℕ) (at write : ℕ) (old new : List LiveEvent) (p : Piece) → old ≡ [] → EndsIn 0 bytes at write p → Reads 0 bytes at write old new p → entries_from bytes at write ≡ Ok (record { events = new; tail = place_of p })
+piece_whole bytes at write old new (Tail tail) none ends reads =
+    sym (whole bytes at write) ∙ ap (λ (es : List LiveEvent). behind es (entries_from (bytes ++ []) at write)) (sym none) ∙ reads [] (inr refl)
+piece_whole bytes at write old new (More next) none ends reads = absurd (omega (arith, ends.1, ends.2))
 
-pub piece_refused : (bytes : List ℕ) (at write : ℕ) (why : JournalRefusal) → Refuses 0 bytes at write [] why → Fails why (entries_from bytes at write)
-piece_refused bytes at write why refuses = subst (Fails why) (whole bytes at write) (refuses [] (inr refl))
+pub piece_refused : (bytes : List ℕ) (at write : ℕ) (old : List LiveEvent) (why : JournalRefusal) → old ≡ [] → Refuses 0 bytes at write old why → Fails why (entries_from bytes at write)
+piece_refused bytes at write old why none refuses =
+    subst (Fails why) (whole bytes at write) (subst (λ (es : List LiveEvent). Fails why (behind es (entries_from (bytes ++ []) at write))) none (refuses [] (inr refl)))
 
 -- ---- the journal
 

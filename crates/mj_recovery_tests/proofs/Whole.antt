@@ -38,7 +38,6 @@ pub merged_with_is : (rank : ℕ) (m : Objects) (j : LiveJournal) (t : Table) (s
     → (let found : Recovery = record { journal = j; table = t; tree = s } in found ≡ merged_with rank m j)
 merged_with_is rank m j t s f g = λ i. record { journal = j; table = f i; tree = (g ∙ ap (tree_of rank) f) i }
 
-
 -- the journal of the list, and what it recovers to
 module _ (rank : ℕ) (hs : List HeldObject) where
   bound : (l : Result LiveJournal Damage) → live_journal (image_of hs) rank ≡ l → recovered rank (objects_of hs) ≡ ((l >>= λ j. Ok (merged_with rank (objects_of hs) j)) >>= λ r. or_damage (merged_damage rank (objects_of hs) r.journal r.table) r)

@@ -24,12 +24,7 @@ fn place_of(piece: Piece) -> u64
 }
 
 // The entries that the bytes from a position on are, up to the tail. They are read as one piece.
-fn read_entries(
-    alloc: Global,
-    bytes: &[u8],
-    at: u64,
-    write: u64,
-) -> Result<Entries, JournalRefusal>
+fn read_entries(alloc: Global, bytes: &[u8], at: u64, write: u64) -> Result<Entries, JournalRefusal>
     requires { at + length bytes.now ≤ 2 ^ 62 }
     ensures told { Gives result (entries_from bytes.now at write) }
     ensures grammar { IfOk result (λ found. InGrammar found.events) }

@@ -2,15 +2,14 @@
 #![tactic(auto)]
 
 mod bad;
+#[cfg(test)]
+mod images;
 mod journal;
 mod objects;
 mod put;
 mod recover;
 mod stored;
 mod stream;
-
-#[cfg(test)]
-mod images;
 
 pub use objects::are_held;
 pub use recover::{Recovery, recovered};

@@ -1,8 +1,7 @@
-use Rattle.std.proofs.Common.{List, ap, ◌∙◌}
+use Rattle.std.proofs.Common.{ap, ◌∙◌}
 use Rattle.mj_cells.specs.Table.{table_of}
 use Rattle.mj_tables.specs.Layered.{early_cells}
 use Rattle.mj_recovery.specs.Damage.{tree_damage}
-use Rattle.mj_judge.specs.Parts.{Cell}
 use Rattle.mj_judge.specs.Judged.{all_dirs}
 use Rattle.mj_judge.proofs.Counted.{if_ok}
 use Rattle.mj_judge.proofs.FoundRows.{dirs_is}
