@@ -33,14 +33,24 @@ fn carry_on<S: ObjectStore>(alloc: Global, world: &mut World<S>) -> Result<Answe
     requires { WorldSince S.faults S.unreported 0 world.old }
     ensures { WorksTo S.state S.faults S.unreported line.Mount world.old (told_if result) world.new }
 {
-    let tail = begin(alloc, world)?;
+    let tail = match begin(alloc, world) {
+        Ok(tail) => tail,
+        Err(refusal) => return Err(refusal),
+    };
     let mut tried: Option<OpNo> = None;
     'carries: loop {
-        match (carry(alloc, world)?, tried) {
-            (MountStep::Ready, _) => return Ok(mounted(world, tail)),
-            (MountStep::Waiting, Some(op)) => return Ok(Answer::WaitingFor(op)),
-            (MountStep::Waiting, None) => tried = Some(try_oldest(alloc, world)?),
-            (MountStep::Sent(_) | MountStep::Reaped(_), _) => tried = None,
+        match carry(alloc, world) {
+            Ok(MountStep::Ready) => return Ok(mounted(world, tail)),
+            Ok(MountStep::Sent(_)) => tried = None,
+            Ok(MountStep::Reaped(_)) => tried = None,
+            Ok(MountStep::Waiting) => match tried {
+                Some(op) => return Ok(Answer::WaitingFor(op)),
+                None => match try_oldest(alloc, world) {
+                    Ok(op) => tried = Some(op),
+                    Err(refusal) => return Err(refusal),
+                },
+            },
+            Err(refusal) => return Err(refusal),
         }
     }
 }
@@ -49,9 +59,12 @@ fn begin<S: ObjectStore>(alloc: Global, world: &mut World<S>) -> Result<u64, Wor
     ensures begun { IfOk result (λ tail. Made S.state S.faults S.unreported Step.Begin world.old (Ok (Begun tail)) world.new) }
     ensures refused { IfErr result (λ e. Made S.state S.faults S.unreported Step.Begin world.old (Err e) world.new) }
 {
-    match world.step(alloc, &Step::Begin)? {
-        Said::Begun(tail) => Ok(tail),
-        _ => unreachable!(),
+    match world.step(alloc, &Step::Begin) {
+        Ok(said) => match said {
+            Said::Begun(tail) => Ok(tail),
+            _ => unreachable!(),
+        },
+        Err(refusal) => Err(refusal),
     }
 }
 
@@ -59,9 +72,12 @@ fn carry<S: ObjectStore>(alloc: Global, world: &mut World<S>) -> Result<MountSte
     ensures carried { IfOk result (λ made. Made S.state S.faults S.unreported Step.Carry world.old (Ok (Carried made)) world.new) }
     ensures refused { IfErr result (λ e. Made S.state S.faults S.unreported Step.Carry world.old (Err e) world.new) }
 {
-    match world.step(alloc, &Step::Carry)? {
-        Said::Carried(step) => Ok(step),
-        _ => unreachable!(),
+    match world.step(alloc, &Step::Carry) {
+        Ok(said) => match said {
+            Said::Carried(step) => Ok(step),
+            _ => unreachable!(),
+        },
+        Err(refusal) => Err(refusal),
     }
 }
 
@@ -74,9 +90,12 @@ fn try_oldest<S: ObjectStore>(alloc: Global, world: &mut World<S>) -> Result<OpN
     let Some((op, name)) = world.oldest_sent() else {
         unreachable!()
     };
-    match world.step(alloc, &Step::Apply(name))? {
-        Said::Applied(_) => Ok(op),
-        _ => unreachable!(),
+    match world.step(alloc, &Step::Apply(name)) {
+        Ok(said) => match said {
+            Said::Applied(_) => Ok(op),
+            _ => unreachable!(),
+        },
+        Err(refusal) => Err(refusal),
     }
 }
 
