@@ -24,15 +24,9 @@ use crate::stray::push_misnamed;
 use mj_base::{ClientId, Damage, Ino, Kind, RankNo};
 use mj_cells::CellView;
 use mj_tables::Layers;
+use mj_tree::{MOST_INODES, MOST_OPENS, MOST_SESSIONS};
 use std::alloc::{AllocError, Global};
 use std::collections::BTreeSet;
-
-/// The limits of one rank.
-const MOST_INODES: usize = 1_048_576;
-
-const MOST_SESSIONS: usize = 4_096;
-
-const MOST_OPENS: usize = 65_536;
 
 fn missing_head(
     alloc: Global,
@@ -310,10 +304,11 @@ fn over_entries(
     }
 }
 
-fn over(limit: usize, n: usize) -> Option<u64>
+fn over(limit: u64, n: usize) -> Option<u64>
     ensures { result ≡ over limit n }
 {
-    if limit < n { Some(n as u64) } else { None }
+    let n = n as u64;
+    if limit < n { Some(n) } else { None }
 }
 
 fn too_much(

@@ -17,6 +17,7 @@ use mj_base::{ClientId, Ino, Kind, RankNo, Tid};
 use mj_cells::{CellKey, CellView};
 use mj_recovery::{ROOT, stray_ino};
 use mj_tables::Layers;
+use mj_tree::{MOST_ENTRIES, MOST_KEPT};
 use std::alloc::{AllocError, Global};
 use std::collections::BTreeSet;
 
@@ -154,7 +155,7 @@ fn replies_badly(layers: &Layers, counts: &Counts, client: ClientId, tid: Tid) -
 {
     match oldest_of(layers, client) {
         None => true,
-        Some(oldest) => tid.0 < oldest || 64 < counts.count(u64::from(client.0)),
+        Some(oldest) => tid.0 < oldest || MOST_KEPT < counts.count(u64::from(client.0)),
     }
 }
 
@@ -218,7 +219,7 @@ pub fn over_dirs(
 {
     let mut found = Vec::new(alloc);
     for dir in dirs.iter() {
-        if 100_000 < counts.count(dir.0) {
+        if MOST_ENTRIES < counts.count(dir.0) {
             found.push(*dir)?;
         }
     }
