@@ -74,14 +74,20 @@ pub const SENTINEL: [u8; 8] = [0x93, 0x97, 0x58, 0x53, 0x26, 0x59, 0x41, 0x31];
 
 /// The types of events.
 pub const SUBTREE_MAP: u32 = 2;
+
 pub const RESET: u32 = 9;
+
 pub const SESSION: u32 = 10;
+
 pub const UPDATE: u32 = 20;
+
 pub const REOPEN: u32 = 22;
+
 pub const NO_OP: u32 = 51;
 
 /// The number of an update's operation, from the first to the last.
 pub const FIRST_OP: u8 = 3;
+
 pub const LAST_OP: u8 = 12;
 
 /// The directories of a subtree map, at most. The least is 1.
